@@ -1,5 +1,5 @@
 -- The array that the bytes of a stream mean, from its front and what is ahead.
-use Rattle.std.proofs.Common.{◌≡◌, ◌∙◌, ◌<◌, ◌≤◌, ◌*◌, ℕ, Bool, true, false, List, [], ◌∷◌, ◌++◌, length, drop, slice_get, refl, sym, ap, subst, arith, append-nil}
+use Rattle.std.proofs.Common.{◌≡◌, ◌∙◌, ◌<◌, ◌≤◌, ◌*◌, inl, inr, ⊎_elim, ℕ, Bool, true, false, List, [], ◌∷◌, ◌++◌, length, drop, slice_get, refl, sym, ap, subst, arith, append-nil}
 use Rattle.std.specs.Prelude.{Option, None, Some, IfSome, Result, Ok, Err}
 use Rattle.std.specs.Io.KnownBytes.{prepend_known, Keeps, IsAtEnd}
 use Rattle.std.proofs.lemmas.List.{length-append, drop-append-le}
@@ -8,7 +8,7 @@ use Rattle.nd_elements.specs.ShapeAndElements.{Meaning, inside}
 use Rattle.nd_npy_text.specs.ItemTypes.{kind_size}
 use Rattle.nd_npy_text.specs.HeaderDescription.{Description}
 use Rattle.nd_npy_text.specs.HeaderLaws.{HeadsNeedNoMore}
-use Rattle.nd_npy_text.specs.HeaderReading.{npy_header_in, opening_in, is_cut_off}
+use Rattle.nd_npy_text.specs.HeaderReading.{npy_header_in, opening_in, is_cut_off, HasLengths}
 use Rattle.nd_npy.specs.declared.item.NpyItem as npy_item
 use Rattle.nd_npy.specs.declared.errors.ReadNpyError.{ReadNpyError}
 use Rattle.nd_npy.specs.declared.errors.ReadNpyError.TheVariants.{Header, OtherKind, WrongSize, Memory}
@@ -16,7 +16,7 @@ use Rattle.nd_npy.specs.declared.errors.ReadNpyFromError.{ReadNpyFromError}
 use Rattle.nd_npy.specs.declared.errors.ReadNpyFromError.TheVariants.{ReadFailed, File}
 use Rattle.nd_npy.specs.ItemBytes.{values_in}
 use Rattle.nd_npy.specs.FileBytesAndArrays.{item_number, data_size, array_after_head, or_header_error, npy_in, IsNpyCause}
-use Rattle.nd_npy.specs.StreamReadsAndWrites.{IsStreamCause, GivesValues}
+use Rattle.nd_npy.specs.StreamReadsAndWrites.{IsStreamCause, FailsToRead, IsValuesCause}
 use Rattle.nd_npy.proofs.ArrayAfterHeader.{array_is, array_of_other_kind, array_of_wrong_size, array_of_whole_bytes, npy_of_cause}
 
 -- ---- what is behind the head
@@ -31,14 +31,14 @@ module _ {A : Type 0} (item : npy_item.Ghosts A) (d : Description) (size count :
   array_ahead_is (Some bytes) values m given shape shows =
       array_of_whole_bytes item d bytes accepts (given.1 ∙ data_is bytes) ∙ ap Ok (sym (array_is item d bytes m values size count shape sized counted given.0 shows))
 
-  pub cause_ahead_is : (Z : Type 0) (known : Option (List ℕ)) (error : ReadNpyFromError) → IfSome known (λ bytes. GivesValues {Z = Z} (item.value_of d.item_type.order) size count bytes (Err error))
+  pub cause_ahead_is : (known : Option (List ℕ)) (error : ReadNpyFromError) → IfSome known (λ bytes. IsValuesCause size count bytes error)
       → IfSome known (λ bytes. IsStreamCause error (array_after_head item d bytes))
-  cause_ahead_is Z None error given = tt
-  cause_ahead_is Z (Some bytes) ReadFailed given = tt
-  cause_ahead_is Z (Some bytes) (File Memory) given = tt
-  cause_ahead_is Z (Some bytes) (File (Header e)) given = absurd given
-  cause_ahead_is Z (Some bytes) (File (OtherKind k)) given = absurd given
-  cause_ahead_is Z (Some bytes) (File (WrongSize expected found)) given =
+  cause_ahead_is None error given = tt
+  cause_ahead_is (Some bytes) ReadFailed given = tt
+  cause_ahead_is (Some bytes) (File Memory) given = tt
+  cause_ahead_is (Some bytes) (File (Header e)) given = absurd given
+  cause_ahead_is (Some bytes) (File (OtherKind k)) given = absurd given
+  cause_ahead_is (Some bytes) (File (WrongSize expected found)) given =
       let expects = data_is bytes in
       let differs : length bytes ≡ data_size d → ⊥ = λ same. given.2 (given.1 ∙ same ∙ sym expects ∙ sym given.0) in
       array_of_wrong_size item d bytes accepts differs ∙ ap (λ n. Err (WrongSize n (length bytes))) (sym expects ∙ sym given.0) ∙ ap (λ n. Err (WrongSize expected n)) (sym given.1)
@@ -69,21 +69,63 @@ module _ (stay : HeadsNeedNoMore) (front : List ℕ) where
     after_start d start ys ended head inside =
         rw (head_same ys ended, head) (ap (array_after_head item d) (drop-append-le start front ys inside))
 
-    pub stream_of_head : (whole rest : Option (List ℕ)) → Keeps whole (prepend_known front rest) → (is_cut_off front ≡ true → IsAtEnd rest) → (d : Description) (start : ℕ) → or_header_error (npy_header_in front) ≡ Ok (d, start) → start ≤ length front
-        → (P : Result (Meaning A) ReadNpyError → Type 0) → IfSome (prepend_known (drop start front) rest) (λ bytes. P (array_after_head item d bytes)) → IfSome whole (λ bytes. P (npy_in item bytes))
-    stream_of_head None rest keeps ended d start head inside P holds = tt
-    stream_of_head (Some xs) None keeps ended d start head inside P holds = absurd keeps
-    stream_of_head (Some xs) (Some ys) keeps ended d start head inside P holds =
-        subst (λ l. P (npy_in item l)) keeps (subst P (sym (after_start d start ys ended head inside)) holds)
+    pub stream_of_head : (rest : Option (List ℕ)) → (is_cut_off front ≡ true → IsAtEnd rest) → (d : Description) (start : ℕ) → or_header_error (npy_header_in front) ≡ Ok (d, start) → start ≤ length front
+        → (P : Result (Meaning A) ReadNpyError → Type 0) → IfSome (prepend_known (drop start front) rest) (λ bytes. P (array_after_head item d bytes)) → IfSome (prepend_known front rest) (λ bytes. P (npy_in item bytes))
+    stream_of_head None ended d start head inside P holds = tt
+    stream_of_head (Some ys) ended d start head inside P holds = subst P (sym (after_start d start ys ended head inside)) holds
 
-    pub stream_of_cause : (whole rest : Option (List ℕ)) → Keeps whole (prepend_known front rest) → (is_cut_off front ≡ true → IsAtEnd rest) → (e : ReadNpyError) → IsNpyCause e (or_header_error (npy_header_in front)) → IfSome whole (λ bytes. IsNpyCause e (npy_in item bytes))
-    stream_of_cause None rest keeps ended e cause = tt
-    stream_of_cause (Some xs) None keeps ended e cause = absurd keeps
-    stream_of_cause (Some xs) (Some ys) keeps ended e cause =
-        subst (λ l. IsNpyCause e (npy_in item l)) keeps (npy_of_cause item (front ++ ys) e (subst (λ r. IsNpyCause e (or_header_error r)) (sym (head_same ys ended)) cause))
+    pub stream_of_cause : (rest : Option (List ℕ)) → (is_cut_off front ≡ true → IsAtEnd rest) → (e : ReadNpyError) → IsNpyCause e (or_header_error (npy_header_in front)) → IfSome (prepend_known front rest) (λ bytes. IsNpyCause e (npy_in item bytes))
+    stream_of_cause None ended e cause = tt
+    stream_of_cause (Some ys) ended e cause = npy_of_cause item (front ++ ys) e (subst (λ r. IsNpyCause e (or_header_error r)) (sym (head_same ys ended)) cause)
+
+-- bytes that have lengths
+pub lengths_bytes : (bytes : List ℕ) → HasLengths bytes → 0 < length bytes
+lengths_bytes bytes has = head_bytes bytes (has.0, has.1) has.2
+
+-- the error of a file is its cause
+pub file_error : {X : Type 0} (e f : ReadNpyError) → (let r : Result X ReadNpyFromError = Err (File e) in r) ≡ Err (File f) → e ≡ f
+file_error e f is = cc
+
+-- ---- the stream, from the bytes that are ahead
+
+-- what holds of the bytes that are ahead holds of all, which they are
+pub stream_kept : (whole ahead : Option (List ℕ)) (P : List ℕ → Type 0) → Keeps whole ahead → IfSome ahead P → IfSome whole P
+stream_kept None ahead P keeps holds = tt
+stream_kept (Some xs) None P keeps holds = absurd keeps
+stream_kept (Some xs) (Some ys) P keeps holds = subst P keeps holds
 
 -- a stream whose front has bytes has bytes
 pub stream_bytes : (whole rest : Option (List ℕ)) (front : List ℕ) → Keeps whole (prepend_known front rest) → 0 < length front → IfSome whole (λ bytes. 0 < length bytes)
 stream_bytes None rest front keeps some = tt
 stream_bytes (Some xs) None front keeps some = absurd keeps
 stream_bytes (Some xs) (Some ys) front keeps some = let long = ap length keeps in omega (arith, long, length-append front ys, some)
+
+-- what was read on keeps what there was
+pub keeps_on : (old now new : Option (List ℕ)) → Keeps old now → Keeps now new → Keeps old new
+keeps_on None now new first then = tt
+keeps_on (Some xs) None new first then = absurd first
+keeps_on (Some xs) (Some ys) None first then = absurd then
+keeps_on (Some xs) (Some ys) (Some zs) first then = then ∙ first
+
+-- if what is left has bytes, so has the whole
+pub front_refused : (whole rest : Option (List ℕ)) (front : List ℕ) (e : ReadNpyFromError) → Keeps whole (prepend_known front rest) → FailsToRead e (IfSome rest (λ xs. 0 < length xs)) → FailsToRead e (IfSome whole (λ xs. 0 < length xs))
+front_refused whole rest front e keeps (inl failed) = inl failed
+front_refused whole rest front e keeps (inr memory) = inr (memory.0, more whole rest keeps memory.1)
+  where
+    more : (whole rest : Option (List ℕ)) → Keeps whole (prepend_known front rest) → IfSome rest (λ xs. 0 < length xs) → IfSome whole (λ xs. 0 < length xs)
+    more None rest keeps some = tt
+    more (Some xs) None keeps some = absurd keeps
+    more (Some xs) (Some ys) keeps some = let long = ap length keeps in omega (arith, long, length-append front ys, some)
+
+-- memory that is refused, or a read that failed, is a cause whatever the bytes mean
+module _ {P : Type 0} (e : ReadNpyFromError) (fails : FailsToRead e P) where
+  pub cause_of_front : {Y : Type 0} (whole : Option (List ℕ)) (meant : List ℕ → Result Y ReadNpyError) → IfSome whole (λ bytes. IsStreamCause e (meant bytes))
+  cause_of_front None meant = tt
+  cause_of_front (Some bytes) meant = ⊎_elim (λ failed. subst (λ d. IsStreamCause d (meant bytes)) (sym failed) tt) (λ memory. subst (λ d. IsStreamCause d (meant bytes)) (sym memory.0) tt) fails
+
+  pub memory_of_front : {X : Type 0} → (let r : Result X ReadNpyFromError = Err e in r) ≡ Err (File Memory) → P
+  memory_of_front is = ⊎_elim (λ failed. let clash : e ≡ File Memory = cc in absurd (let both : ReadFailed ≡ File Memory = sym failed ∙ clash in cc)) (λ memory. memory.1) fails
+
+  pub values_fail : (size count : ℕ) (whole : Option (List ℕ)) → IfSome whole (λ bytes. IsValuesCause size count bytes e)
+  values_fail size count None = tt
+  values_fail size count (Some bytes) = ⊎_elim (λ failed. subst (IsValuesCause size count bytes) (sym failed) tt) (λ memory. subst (IsValuesCause size count bytes) (sym memory.0) tt) fails

@@ -4,13 +4,12 @@ use Rattle.std.proofs.lemmas.List.{length-append, length-drop, take-append-le, d
 use Rattle.std.proofs.lemmas.Bool.{leb-true, leb-false, ltb-true, ltb-false}
 use Rattle.std.proofs.Math.Nat.{div-mul-le_self, lt-div-mul-add, min-eq_left, min-eq_right}
 use Rattle.nd_npy.specs.ItemBytes.{values_in}
-use Rattle.std.specs.Prelude.{Option, None, Some, IfSome, IfOk, IfErr, Result, Ok, Err, vec_len, ⊤}
-use Rattle.std.specs.declared.vec.Vec.{Vec}
+use Rattle.std.specs.Prelude.{Option, None, Some, IfSome, OnOk, IfErr, Result, Ok, Err, ⊤}
 use Rattle.std.specs.Io.KnownBytes.{prepend_known, Keeps, IsAtEnd}
 use Rattle.nd_npy.specs.declared.errors.ReadNpyError.TheVariants.{WrongSize}
 use Rattle.nd_npy.specs.declared.errors.ReadNpyFromError.{ReadNpyFromError}
 use Rattle.nd_npy.specs.declared.errors.ReadNpyFromError.TheVariants.{File}
-use Rattle.nd_npy.specs.StreamReadsAndWrites.{TakesItems, GivesValues}
+use Rattle.nd_npy.specs.StreamReadsAndWrites.{TakesItems, GivesValues, IsValuesCause}
 
 module _ {A : Type 0} (value : List ℕ → A) (size : ℕ) where
   -- the values of items at the front of some bytes
@@ -71,6 +70,10 @@ module _ {A : Type 0} (value : List ℕ → A) (size : ℕ) where
   whole_items n k h =
       let product : k * size ≤ n / size * size = mul-le-mul_right size h in
       omega (arith, product, div-mul-le_self n size)
+
+  -- the bytes of the items that are taken are among those that wait
+  pub taken_fits : (n room k : ℕ) → k ≡ min (n / size) room → k * size ≤ n
+  taken_fits n room k is = whole_items n k (by_least (n / size) room k is).0
 
   pub items_taken : (count before after k : ℕ) (old new : List A) (bytes left : List ℕ) → 0 < size → before ≤ count → k ≡ min (length bytes / size) (count - before)
       → new ≡ old ++ values_in value size k (take (k * size) bytes) → after ≡ before + k → left ≡ drop (k * size) bytes → TakesItems value size count old new before after bytes left
@@ -176,19 +179,19 @@ module _ {A : Type 0} (value : List ℕ → A) (size count : ℕ) where
             (sym (append-nil xs) ∙ ap (λ m. xs ++ values_in value size m (pending ++ ys)) (sym none_left) ∙ is.0, omega (arith, is.1, none, same))
 
   -- what is given at the end
-  module _ {Z : Type 0} (whole : Option (List ℕ)) (values : Vec A Z) (sum : ℕ) (counted : IfSome whole (λ bytes. sum ≡ length bytes))
-      (enough : sum ≡ count * size → IfSome whole (λ bytes. (values.items ≡ values_in value size count bytes) × (length bytes ≡ count * size))) where
-    pub values_given : (r : Result (Vec A Z) ReadNpyFromError) → IfOk r (λ v. v ≡ values) → IfOk r (λ _. sum ≡ count * size) → IfErr r (λ e. e ≡ File (WrongSize (count * size) sum)) → IfErr r (λ _. ¬ (sum ≡ count * size)) → IfSome whole (λ bytes. GivesValues value size count bytes r)
-    values_given (Ok v) same fits refused differs = subst (λ w. IfSome whole (λ bytes. GivesValues value size count bytes (Ok w))) (sym same) (enough fits)
-    values_given (Err e) same fits refused differs = subst (λ d. IfSome whole (λ bytes. GivesValues {Z = Z} value size count bytes (Err d))) (sym refused) (by_known whole counted)
+  module _ (whole : Option (List ℕ)) (xs : List A) (sum : ℕ) (counted : IfSome whole (λ bytes. sum ≡ length bytes))
+      (enough : sum ≡ count * size → IfSome whole (λ bytes. (xs ≡ values_in value size count bytes) × (length bytes ≡ count * size))) where
+    pub values_given : {X : Type 0} (r : Result X ReadNpyFromError) → OnOk r (sum ≡ count * size) → IfErr r (λ e. e ≡ File (WrongSize (count * size) sum)) → IfErr r (λ _. ¬ (sum ≡ count * size)) → IfSome whole (λ bytes. GivesValues value size count bytes xs r)
+    values_given (Ok x) fits refused differs = enough fits
+    values_given (Err e) fits refused differs = subst (λ d. IfSome whole (λ bytes. IsValuesCause size count bytes d)) (sym refused) (by_known whole counted)
       where
-        by_known : (whole : Option (List ℕ)) → IfSome whole (λ bytes. sum ≡ length bytes) → IfSome whole (λ bytes. GivesValues {Z = Z} value size count bytes (Err (File (WrongSize (count * size) sum))))
+        by_known : (whole : Option (List ℕ)) → IfSome whole (λ bytes. sum ≡ length bytes) → IfSome whole (λ bytes. IsValuesCause size count bytes (File (WrongSize (count * size) sum)))
         by_known None counted = tt
         by_known (Some bytes) counted = (refl, counted, differs)
 
-  pub values_counted : {Z : Type 0} (values : Vec A Z) (left : ℕ) → vec_len values ≤ count → (vec_len values < count → left < size) → (r : Result (Vec A Z) ReadNpyFromError) → IfOk r (λ v. v ≡ values) → IfOk r (λ _. vec_len values * size + left ≡ count * size) → IfOk r (λ v. vec_len v ≡ count)
-  values_counted values left few short (Ok v) same fits = ap (λ w. vec_len w) same ∙ all_taken (vec_len values) left few short fits
-  values_counted values left few short (Err e) same fits = tt
+  pub values_counted : (taken left : ℕ) → taken ≤ count → (taken < count → left < size) → {X : Type 0} (r : Result X ReadNpyFromError) → OnOk r (taken * size + left ≡ count * size) → OnOk r (taken ≡ count)
+  values_counted taken left few short (Ok x) fits = all_taken taken left few short fits
+  values_counted taken left few short (Err e) fits = tt
 
   -- each turn takes the bytes ahead further
   pub turn_smaller : (old new : List A) (before after : ℕ) (bytes left : List ℕ) (waiting waited more : ℕ) → TakesItems value size count old new before after bytes left → waiting ≡ length bytes → waited ≡ length left → waited < more → more < 2 ^ 63 → count * size < 2 ^ 63

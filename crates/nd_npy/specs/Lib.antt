@@ -4,3 +4,4 @@ pub mod ItemByteLaws
 pub mod ItemBytes
 pub mod ReadBackLaws
 pub mod StreamReadsAndWrites
+pub mod WrittenElements

@@ -1,7 +1,6 @@
 -- What is read from a reader and written to a writer, and in which order an array that lies in memory is written.
-use Rattle.std.specs.Prelude.{◌≡◌, ◌↔◌, ◌<◌, ◌≤◌, ◌+◌, ◌*◌, ℕ, Bool, true, false, List, ◌++◌, length, drop, Option, Result, Ok, Err, IsTrue}
+use Rattle.std.specs.Prelude.{◌≡◌, ◌↔◌, ◌⊎◌, ◌<◌, ◌≤◌, ◌+◌, ◌*◌, ℕ, Bool, true, false, List, ◌++◌, length, drop, Option, Result, Ok, Err, IsTrue}
 use Rattle.std.specs.Io.KnownBytes.{prepend_known}
-use Rattle.std.specs.declared.vec.Vec.{Vec}
 use Rattle.nd_shape_and_slice.specs.declared.dimension.Dimension as dimension
 use Rattle.nd_shape_and_slice.specs.declared.dimension.AxisCount as axis_count
 use Rattle.nd_shape_and_slice.specs.declared.dimension.StrideList as stride_list
@@ -11,7 +10,7 @@ use Rattle.nd_array_core.specs.declared.base.array.ArrayBase.{ArrayBase}
 use Rattle.nd_array_core.specs.reshape.ElementsAsSlice.{IsStandardArray}
 use Rattle.nd_array_core.specs.reshape.ReshapeByRank.{LiesInOrder}
 use Rattle.nd_text.specs.declared.watched_streams.Watched.{Watched}
-use Rattle.nd_text.specs.WatchedReadersAndWriters.{watched_inner, watched_failed, GetsFlushed}
+use Rattle.nd_text.specs.WatchedReadersAndWriters.{watched_inner, watched_failed, watched_retried, GetsFlushed}
 use Rattle.nd_text.specs.BufferedPrinting.{TakesText}
 use Rattle.nd_npy.specs.declared.errors.ReadNpyFromError.{ReadNpyFromError}
 use Rattle.nd_npy.specs.declared.errors.ReadNpyFromError.TheVariants.{ReadFailed, File}
@@ -41,6 +40,15 @@ abbrev pub is_failed_npy_read : {X : Type 0} → Result X ReadNpyFromError → B
 is_failed_npy_read (Ok x) = false
 is_failed_npy_read (Err ReadFailed) = true
 is_failed_npy_read (Err (File error)) = false
+
+-- Says that a reader, which hadn't failed, has failed now where the result is that a read failed, and that it stops at the
+-- same errors as before.
+abbrev pub AnswersAsWatched : {R X : Type 0} → Watched R → Watched R → Result X ReadNpyFromError → Type 0
+AnswersAsWatched old new result = (watched_failed new ≡ is_failed_npy_read result) × (watched_retried new ≡ watched_retried old)
+
+-- Says that an error is that a read failed, or that memory was refused, and that `P` holds then.
+abbrev pub FailsToRead : ReadNpyFromError → Type 0 → Type 0
+FailsToRead error P = (error ≡ ReadFailed) ⊎ ((error ≡ File npy_errors.Memory) × P)
 
 -- ---- writing
 
@@ -79,11 +87,16 @@ pub record TakesItems {A : Type 0} (value : List ℕ → A) (size count : ℕ) (
   pub at_most_count : after ≤ count
   pub else_short : after < count → length left < size
 
--- Says what is given for the bytes behind a head: the values of `count` items, which are all of the bytes, or the error
--- that the bytes are more or fewer; or memory was refused, or a read failed.
-abbrev pub GivesValues : {A Z : Type 0} → (List ℕ → A) → ℕ → ℕ → List ℕ → Result (Vec A Z) ReadNpyFromError → Type 0
-GivesValues value size count bytes (Ok v) = (v.items ≡ values_in value size count bytes) × (length bytes ≡ count * size)
-GivesValues value size count bytes (Err ReadFailed) = Unit {0}
-GivesValues value size count bytes (Err (File (npy_errors.WrongSize expected found))) = (expected ≡ count * size) × (found ≡ length bytes) × ¬ (found ≡ expected)
-GivesValues value size count bytes (Err (File npy_errors.Memory)) = Unit {0}
-GivesValues value size count bytes (Err (File _)) = ⊥
+-- Says that the values of `count` items aren't given for this error: the bytes behind the head are more or fewer than the
+-- items take, memory was refused, or a read failed.
+abbrev pub IsValuesCause : ℕ → ℕ → List ℕ → ReadNpyFromError → Type 0
+IsValuesCause size count bytes ReadFailed = Unit {0}
+IsValuesCause size count bytes (File (npy_errors.WrongSize expected found)) = (expected ≡ count * size) × (found ≡ length bytes) × ¬ (found ≡ expected)
+IsValuesCause size count bytes (File npy_errors.Memory) = Unit {0}
+IsValuesCause size count bytes (File _) = ⊥
+
+-- Says what is given for the bytes behind a head: the values of `count` items, which are all of the bytes, or an error
+-- (`IsValuesCause`).
+abbrev pub GivesValues : {A X : Type 0} → (List ℕ → A) → ℕ → ℕ → List ℕ → List A → Result X ReadNpyFromError → Type 0
+GivesValues value size count bytes xs (Ok x) = (xs ≡ values_in value size count bytes) × (length bytes ≡ count * size)
+GivesValues value size count bytes xs (Err error) = IsValuesCause size count bytes error

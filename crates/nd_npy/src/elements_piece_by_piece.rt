@@ -1,13 +1,13 @@
 //! The elements of a file as they come from a stream, piece by piece.
 
-ghost use Rattle.std.specs.Prelude.{◌≡◌, ◌<◌, ◌≤◌, ◌+◌, ◌*◌, ◌++◌, ◌^◌, false, true, length, take, drop, vec_len, vec_capacity, Ok, Err, ◌⊎◌, OnOk, IfOk, IfErr, IfSome};
+ghost use Rattle.std.specs.Prelude.{◌≡◌, ◌<◌, ◌≤◌, ◌+◌, ◌*◌, ◌++◌, ◌^◌, false, true, length, take, drop, vec_len, vec_capacity, [], Ok, OnOk, IfOk, IfErr, IfSome};
 ghost use Rattle.std.specs.Io.KnownBytes.{IsAtEnd, Keeps};
-ghost use Rattle.nd_text.specs.WatchedReadersAndWriters.{watched_inner, watched_failed, watched_retried};
+ghost use Rattle.nd_text.specs.WatchedReadersAndWriters.{watched_inner, watched_failed};
 ghost use Rattle.nd_npy_text.specs.HeaderReading.{is_cut_off};
 ghost use Rattle.nd_npy.specs.ItemBytes.{values_in};
-ghost use Rattle.nd_npy.specs.StreamReadsAndWrites.{bytes_ahead, is_failed_npy_read, TakesItems, GivesValues};
-ghost use Rattle.nd_npy.specs.declared.errors.ReadNpyError.TheVariants.{Memory, WrongSize};
-ghost use Rattle.nd_npy.specs.declared.errors.ReadNpyFromError.TheVariants.{File, ReadFailed};
+ghost use Rattle.nd_npy.specs.StreamReadsAndWrites.{bytes_ahead, AnswersAsWatched, FailsToRead, TakesItems, GivesValues};
+ghost use Rattle.nd_npy.specs.declared.errors.ReadNpyError.TheVariants.{WrongSize};
+ghost use Rattle.nd_npy.specs.declared.errors.ReadNpyFromError.TheVariants.{File};
 
 use crate::errors::{ReadNpyError, ReadNpyFromError};
 use crate::item::NpyItem;
@@ -30,12 +30,9 @@ pub(crate) fn read_on<R: Read>(
     ensures piece { length piece.new ≡ length piece.old }
     ensures ahead { OnOk result (Keeps (bytes_ahead R.remaining pending.old.items input.old) (bytes_ahead R.remaining pending.new.items input.new)) }
     ensures more { result ≡ Ok true → vec_len pending.old < vec_len pending.new }
-    ensures end { result ≡ Ok false → IsAtEnd (R.remaining (watched_inner input.new)) }
-    ensures kept { result ≡ Ok false → pending.new ≡ pending.old }
-    ensures memory { result ≡ Err (File Memory) → IfSome (R.remaining (watched_inner input.old)) (λ xs. 0 < length xs) }
-    ensures causes { IfErr result (λ e. (e ≡ ReadFailed) ⊎ (e ≡ File Memory)) }
-    ensures failed { watched_failed input.new ≡ is_failed_npy_read result }
-    ensures stops { watched_retried input.new ≡ watched_retried input.old }
+    ensures end { result ≡ Ok false → IsAtEnd (R.remaining (watched_inner input.new)) × (pending.new ≡ pending.old) }
+    ensures refused { IfErr result (λ e. FailsToRead e (IfSome (R.remaining (watched_inner input.old)) (λ xs. 0 < length xs))) }
+    ensures watch { AnswersAsWatched input.old input.new result }
 {
     match input.read(piece) {
         Ok(0) => Ok(false),
@@ -69,10 +66,8 @@ pub(crate) fn read_front<R: Read>(
     ensures piece { length piece.new ≡ length piece.old }
     ensures ahead { IfOk result (λ v. Keeps (R.remaining (watched_inner input.old)) (bytes_ahead R.remaining v.items input.new)) }
     ensures enough { IfOk result (λ v. is_cut_off v.items ≡ true → IsAtEnd (R.remaining (watched_inner input.new))) }
-    ensures memory { result ≡ Err (File Memory) → IfSome (R.remaining (watched_inner input.old)) (λ xs. 0 < length xs) }
-    ensures causes { IfErr result (λ e. (e ≡ ReadFailed) ⊎ (e ≡ File Memory)) }
-    ensures failed { watched_failed input.new ≡ is_failed_npy_read result }
-    ensures stops { watched_retried input.new ≡ watched_retried input.old }
+    ensures refused { IfErr result (λ e. FailsToRead e (IfSome (R.remaining (watched_inner input.old)) (λ xs. 0 < length xs))) }
+    ensures watch { AnswersAsWatched input.old input.new result }
 {
     let mut front = Vec::new(alloc);
     while is_cut_off(&front) {
@@ -107,61 +102,59 @@ fn take_items<A: NpyItem>(
     Ok(())
 }
 
-/// Returns the values, if they and the `left` bytes that are left over take as many bytes as `count` items of `size` bytes
-/// each.
-fn unless_wrong_size<A: Drop>(
-    values: Vec<A>,
+/// Fails unless `taken` items of `size` bytes each and the `left` bytes that are left over are as many bytes as `count`
+/// items take.
+fn unless_wrong_size(
+    taken: usize,
     size: usize,
     count: usize,
     left: usize,
-) -> Result<Vec<A>, ReadNpyFromError>
+) -> Result<(), ReadNpyFromError>
     requires fits { count * size < 2 ^ 63 }
-    requires few { vec_len values ≤ count }
+    requires few { taken ≤ count }
     requires low { left < 2 ^ 63 }
-    ensures same { IfOk result (λ v. v ≡ values) }
-    ensures whole { IfOk result (λ _. vec_len values * size + left ≡ count * size) }
-    ensures refused { IfErr result (λ e. e ≡ File (WrongSize (count * size) (vec_len values * size + left))) }
-    ensures differs { IfErr result (λ _. ¬ (vec_len values * size + left ≡ count * size)) }
+    ensures whole { OnOk result (taken * size + left ≡ count * size) }
+    ensures refused { IfErr result (λ e. e ≡ File (WrongSize (count * size) (taken * size + left))) }
+    ensures differs { IfErr result (λ _. ¬ (taken * size + left ≡ count * size)) }
 {
     let expected = count * size;
-    let found = values.len() * size + left;
+    let found = taken * size + left;
     if found != expected {
         return Err(ReadNpyFromError::File(ReadNpyError::WrongSize { expected, found }));
     }
-    Ok(values)
+    Ok(())
 }
 
-/// Returns the values of `count` items of `size` bytes each, which must be all that is ahead: the bytes in `pending`, and
-/// those that the input has left. It reads the input to its end.
+/// Puts the values of `count` items of `size` bytes each, which must be all that is ahead, into `values`, which has none
+/// yet. Ahead are the bytes in `pending`, and those that the input has left. It reads the input to its end.
 pub(crate) fn values_ahead<A: NpyItem, R: Read>(
-    alloc: Global,
+    values: &mut Vec<A>,
     order: ByteOrder,
     size: usize,
     count: usize,
-    pending: Vec<u8>,
+    pending: &mut Vec<u8>,
     input: &mut Watched<R>,
     piece: &mut [u8],
-) -> Result<Vec<A>, ReadNpyFromError>
+) -> Result<(), ReadNpyFromError>
     requires fine { watched_failed input.old ≡ false }
     requires not_empty { 0 < length piece.old }
     requires size { size ≡ A.size }
     requires some { 0 < size }
     requires fits { count * size < 2 ^ 63 }
-    ensures read { IfSome (bytes_ahead R.remaining pending.items input.old) (λ bytes. GivesValues (A.value_of order) size count bytes result) }
-    ensures count { IfOk result (λ v. vec_len v ≡ count) }
-    ensures failed { watched_failed input.new ≡ is_failed_npy_read result }
-    ensures stops { watched_retried input.new ≡ watched_retried input.old }
+    requires none { values.old.items ≡ [] }
+    requires empty { vec_len values.old ≡ 0 }
+    ensures read { IfSome (bytes_ahead R.remaining pending.old.items input.old) (λ bytes. GivesValues (A.value_of order) size count bytes values.new.items result) }
+    ensures count { OnOk result (vec_len values.new ≡ count) }
+    ensures watch { AnswersAsWatched input.old input.new result }
 {
-    let mut pending = pending;
-    let mut values = Vec::new(alloc);
     loop {
-        match take_items(&mut values, order, size, count, &mut pending) {
+        match take_items(values, order, size, count, pending) {
             Ok(()) => {}
             Err(_) => return Err(ReadNpyFromError::File(ReadNpyError::Memory)),
         }
-        match read_on(input, piece, &mut pending) {
+        match read_on(input, piece, pending) {
             Ok(true) => {}
-            Ok(false) => return unless_wrong_size(values, size, count, pending.len()),
+            Ok(false) => return unless_wrong_size(values.len(), size, count, pending.len()),
             Err(error) => return Err(error),
         }
     }

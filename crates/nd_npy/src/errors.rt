@@ -1,6 +1,7 @@
 //! The errors of reading a file and of writing one.
 
-ghost use Rattle.std.specs.Prelude.{◌≡◌, Some};
+ghost use Rattle.std.specs.Prelude.{◌≡◌, ◌++◌, Some, codes};
+ghost use Rattle.std.specs.Fmt.{WritesOnOk, decimal};
 ghost use Rattle.nd_npy.specs.ErrorTexts.{kind_name, read_npy_error_text, read_npy_from_error_text, write_npy_error_text};
 
 use nd_npy_text::{HeaderError, Kind};
@@ -47,6 +48,20 @@ pub enum ReadNpyError {
     Memory,
 }
 
+/// Writes that `found` bytes follow the head, and how many the elements take.
+fn write_sizes<W: fmt::Write>(
+    f: &mut fmt::Formatter<W>,
+    expected: usize,
+    found: usize,
+) -> fmt::Result
+    ensures { WritesOnOk W.write_str_gives f.old result (decimal found ++ (codes " bytes follow the head, and the elements take " ++ decimal expected)) f.new }
+{
+    write!(
+        f,
+        "{found} bytes follow the head, and the elements take {expected}"
+    )
+}
+
 /// Writes the cause, for example `23 bytes follow the head, and the elements take 24`.
 impl fmt::Display for ReadNpyError {
     ghost output = { λ error. Some (read_npy_error_text error) };
@@ -59,12 +74,7 @@ impl fmt::Display for ReadNpyError {
                 "the elements are of the kind {}, which isn't the kind asked for",
                 kind_name(*kind)
             ),
-            ReadNpyError::WrongSize { expected, found } => {
-                write!(
-                    f,
-                    "{found} bytes follow the head, and the elements take {expected}"
-                )
-            }
+            ReadNpyError::WrongSize { expected, found } => write_sizes(f, *expected, *found),
             ReadNpyError::Memory => f.write_str("out of memory"),
         }
     }

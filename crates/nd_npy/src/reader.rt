@@ -68,9 +68,23 @@ fn count_in<A: NpyItem>(header: &Header, bytes: &[u8]) -> Result<usize, ReadNpyE
     Ok(count)
 }
 
+/// Returns the array of a shape, given by a dimension, over `values`, which must be as many as its elements: in
+/// column-major order if `fortran_order` is true, and otherwise in row-major order.
+#[tactic(auto, using(crate::proofs::ShapedVectors::none_refused, crate::proofs::ShapedVectors::number_shown))]
+fn shaped<A: Drop, D: Dimension>(dim: D, fortran_order: bool, values: Vec<A>) -> Array<A, D>
+    requires checked { HasCheckedSize (D.lengths dim) }
+    requires count { vec_len values ≡ size_of (D.lengths dim) }
+    ensures shape { shape_of result ≡ D.lengths dim }
+    ensures elements { (i : List ℕ) → element_at result i ≡ inside (D.lengths dim) i (slice_get values.items (item_number fortran_order (D.lengths dim) i)) }
+{
+    match Array::from_shape_vec(dim.set_f(fortran_order), values) {
+        Ok(array) => array,
+        Err(_) => unreachable!(),
+    }
+}
+
 /// Returns the array of a shape over `values`, which must be as many as its elements: in column-major order if
 /// `fortran_order` is true, and otherwise in row-major order.
-#[tactic(auto, using(crate::proofs::ShapedVectors::none_refused, crate::proofs::ShapedVectors::number_shown))]
 pub(crate) fn laid_out<A: Drop>(shape: &[usize], fortran_order: bool, values: Vec<A>) -> ArrayD<A>
     requires axes { length shape.now ≤ 32 }
     requires checked { HasCheckedSize shape.now }
@@ -78,10 +92,7 @@ pub(crate) fn laid_out<A: Drop>(shape: &[usize], fortran_order: bool, values: Ve
     ensures shape { shape_of result ≡ shape.now }
     ensures elements { (i : List ℕ) → element_at result i ≡ inside shape.now i (slice_get values.items (item_number fortran_order shape.now i)) }
 {
-    match Array::from_shape_vec(IxDyn::new(shape).set_f(fortran_order), values) {
-        Ok(array) => array,
-        Err(_) => unreachable!(),
-    }
+    shaped(IxDyn::new(shape), fortran_order, values)
 }
 
 /// Returns the array of a head and of the bytes of its elements.
@@ -135,9 +146,27 @@ fn chunks_of<const N: usize>(count: usize, bytes: &[u8]) -> &[[u8; N]]
     items
 }
 
+/// Returns a view of a shape, given by a dimension, over `items`, which must be as many as its elements: in column-major
+/// order if `fortran_order` is true, and otherwise in row-major order.
+#[tactic(auto, using(crate::proofs::ShapedVectors::none_refused_to_view, crate::proofs::ShapedVectors::number_shown))]
+fn view_shaped<'a, A, D: Dimension>(
+    dim: D,
+    fortran_order: bool,
+    items: &'a [A],
+) -> ArrayView<'a, A, D>
+    requires checked { HasCheckedSize (D.lengths dim) }
+    requires count { length items.now ≡ size_of (D.lengths dim) }
+    ensures shape { shape_of result ≡ D.lengths dim }
+    ensures elements { (i : List ℕ) → element_at result i ≡ inside (D.lengths dim) i (slice_get items.now (item_number fortran_order (D.lengths dim) i)) }
+{
+    match ArrayView::from_shape(dim.set_f(fortran_order), items) {
+        Ok(view) => view,
+        Err(_) => unreachable!(),
+    }
+}
+
 /// Returns a view of a shape over `items`, which must be as many as its elements: in column-major order if
 /// `fortran_order` is true, and otherwise in row-major order.
-#[tactic(auto, using(crate::proofs::ShapedVectors::none_refused_to_view, crate::proofs::ShapedVectors::number_shown))]
 fn viewed<'a, A>(shape: &[usize], fortran_order: bool, items: &'a [A]) -> ArrayViewD<'a, A>
     requires axes { length shape.now ≤ 32 }
     requires checked { HasCheckedSize shape.now }
@@ -145,10 +174,7 @@ fn viewed<'a, A>(shape: &[usize], fortran_order: bool, items: &'a [A]) -> ArrayV
     ensures shape { shape_of result ≡ shape.now }
     ensures elements { (i : List ℕ) → element_at result i ≡ inside shape.now i (slice_get items.now (item_number fortran_order shape.now i)) }
 {
-    match ArrayView::from_shape(IxDyn::new(shape).set_f(fortran_order), items) {
-        Ok(view) => view,
-        Err(_) => unreachable!(),
-    }
+    view_shaped(IxDyn::new(shape), fortran_order, items)
 }
 
 /// Returns a view of the array of a head over the bytes of its elements.

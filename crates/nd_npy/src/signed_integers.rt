@@ -8,7 +8,6 @@ ghost use Rattle.nd_npy.specs.ItemBytes.{is_kind, number_of_bytes, bytes_of_numb
 ghost use Rattle.nd_npy.specs.ItemByteLaws.{size_is, signed_whole_16, signed_whole_32, signed_whole_64, signed_back_16, signed_back_32, signed_back_64};
 
 use crate::item::{NpyItem, NpyNumber};
-use crate::raw_items::item_of;
 use nd_npy_text::{ByteOrder, Kind};
 use std::alloc::AllocError;
 
@@ -28,11 +27,11 @@ impl NpyItem for i8 {
     }
 
     fn from_bytes(_order: ByteOrder, bytes: &[u8]) -> i8 {
-        i8::from_le_bytes([bytes[0]])
+        bytes[0].cast_signed()
     }
 
     fn append_to(self, _order: ByteOrder, bytes: &mut Vec<u8>) -> Result<(), AllocError> {
-        bytes.extend_from_slice(&self.to_le_bytes())
+        bytes.extend_from_slice(&[self.cast_unsigned()])
     }
 
     ghost sizes = { λ kind is. size_is kinds.Int8 kind is };
@@ -68,19 +67,11 @@ impl NpyItem for i16 {
     }
 
     fn from_bytes(order: ByteOrder, bytes: &[u8]) -> i16 {
-        let item = item_of::<2>(bytes);
-        match order {
-            ByteOrder::Big => i16::from_be_bytes(item),
-            _ => i16::from_le_bytes(item),
-        }
+        u16::from_bytes(order, bytes).cast_signed()
     }
 
     fn append_to(self, order: ByteOrder, bytes: &mut Vec<u8>) -> Result<(), AllocError> {
-        let item = match order {
-            ByteOrder::Big => self.to_be_bytes(),
-            _ => self.to_le_bytes(),
-        };
-        bytes.extend_from_slice(&item)
+        self.cast_unsigned().append_to(order, bytes)
     }
 
     ghost sizes = { λ kind is. size_is kinds.Int16 kind is };
@@ -116,19 +107,11 @@ impl NpyItem for i32 {
     }
 
     fn from_bytes(order: ByteOrder, bytes: &[u8]) -> i32 {
-        let item = item_of::<4>(bytes);
-        match order {
-            ByteOrder::Big => i32::from_be_bytes(item),
-            _ => i32::from_le_bytes(item),
-        }
+        u32::from_bytes(order, bytes).cast_signed()
     }
 
     fn append_to(self, order: ByteOrder, bytes: &mut Vec<u8>) -> Result<(), AllocError> {
-        let item = match order {
-            ByteOrder::Big => self.to_be_bytes(),
-            _ => self.to_le_bytes(),
-        };
-        bytes.extend_from_slice(&item)
+        self.cast_unsigned().append_to(order, bytes)
     }
 
     ghost sizes = { λ kind is. size_is kinds.Int32 kind is };
@@ -164,19 +147,11 @@ impl NpyItem for i64 {
     }
 
     fn from_bytes(order: ByteOrder, bytes: &[u8]) -> i64 {
-        let item = item_of::<8>(bytes);
-        match order {
-            ByteOrder::Big => i64::from_be_bytes(item),
-            _ => i64::from_le_bytes(item),
-        }
+        u64::from_bytes(order, bytes).cast_signed()
     }
 
     fn append_to(self, order: ByteOrder, bytes: &mut Vec<u8>) -> Result<(), AllocError> {
-        let item = match order {
-            ByteOrder::Big => self.to_be_bytes(),
-            _ => self.to_le_bytes(),
-        };
-        bytes.extend_from_slice(&item)
+        self.cast_unsigned().append_to(order, bytes)
     }
 
     ghost sizes = { λ kind is. size_is kinds.Int64 kind is };

@@ -1,11 +1,13 @@
 //! Reading an array from a stream, and writing the file of an array to one.
 
-ghost use Rattle.std.specs.Prelude.{◌≡◌, ◌<◌, false, length, All, Err, IfSome, IsTrue, OnOk};
+ghost use Rattle.std.specs.Prelude.{◌≡◌, ◌<◌, false, true, length, All, Err, IfSome, IsTrue, OnOk};
+ghost use Rattle.std.specs.Io.KnownBytes.{IsAtEnd};
 ghost use Rattle.nd_array_core.specs.ArrayMeaning.{meaning_of};
 ghost use Rattle.nd_text.specs.WatchedReadersAndWriters.{watched_inner, watched_failed, watched_retried};
 ghost use Rattle.nd_npy_text.specs.HeaderDescription.{description_of, IsWholeHeader};
+ghost use Rattle.nd_npy_text.specs.HeaderReading.{is_cut_off};
 ghost use Rattle.nd_npy.specs.FileBytesAndArrays.{array_after_head, npy_in, file_in, listed_elements, little_items};
-ghost use Rattle.nd_npy.specs.StreamReadsAndWrites.{bytes_ahead, ReadsStreamAs, is_failed_npy_read, WritesFile, InItsOrder};
+ghost use Rattle.nd_npy.specs.StreamReadsAndWrites.{bytes_ahead, AnswersAsWatched, ReadsStreamAs, is_failed_npy_read, WritesFile, InItsOrder};
 ghost use Rattle.nd_npy.specs.declared.errors.ReadNpyError.TheVariants.{Memory};
 ghost use Rattle.nd_npy.specs.declared.errors.ReadNpyFromError.TheVariants.{File};
 
@@ -27,24 +29,24 @@ use std::io::{Read, Write};
 fn array_ahead<A: NpyItem, R: Read>(
     alloc: Global,
     header: &Header,
-    pending: Vec<u8>,
+    pending: &mut Vec<u8>,
     input: &mut Watched<R>,
     piece: &mut [u8],
 ) -> Result<ArrayD<A>, ReadNpyFromError>
     requires whole { IsWholeHeader (description_of header.now) }
     requires fine { watched_failed input.old ≡ false }
     requires not_empty { 0 < length piece.old }
-    ensures read { IfSome (bytes_ahead R.remaining pending.items input.old) (λ bytes. ReadsStreamAs meaning_of result (array_after_head A.NpyItem (description_of header.now) bytes)) }
-    ensures failed { watched_failed input.new ≡ is_failed_npy_read result }
-    ensures stops { watched_retried input.new ≡ watched_retried input.old }
+    ensures read { IfSome (bytes_ahead R.remaining pending.old.items input.old) (λ bytes. ReadsStreamAs meaning_of result (array_after_head A.NpyItem (description_of header.now) bytes)) }
+    ensures watch { AnswersAsWatched input.old input.new result }
 {
     let item_type = header.item_type;
     if !A::accepts(item_type.kind) {
         return Err(ReadNpyFromError::File(ReadNpyError::OtherKind(item_type.kind)));
     }
     let count = size_of(header.shape.as_slice());
+    let mut values = Vec::new(alloc);
     match values_ahead(
-        alloc,
+        &mut values,
         item_type.order,
         item_type.size(),
         count,
@@ -52,7 +54,50 @@ fn array_ahead<A: NpyItem, R: Read>(
         input,
         piece,
     ) {
-        Ok(values) => Ok(laid_out(header.shape.as_slice(), header.fortran_order, values)),
+        Ok(()) => Ok(laid_out(header.shape.as_slice(), header.fortran_order, values)),
+        Err(error) => Err(error),
+    }
+}
+
+/// Returns the array that the bytes in `front`, and all that the input has left, mean. The bytes in `front` aren't cut
+/// off inside their head, or else the input has none left.
+fn array_behind<A: NpyItem, R: Read>(
+    alloc: Global,
+    front: &mut Vec<u8>,
+    input: &mut Watched<R>,
+    piece: &mut [u8],
+) -> Result<ArrayD<A>, ReadNpyFromError>
+    requires fine { watched_failed input.old ≡ false }
+    requires not_empty { 0 < length piece.old }
+    requires enough { is_cut_off front.old.items ≡ true → IsAtEnd (R.remaining (watched_inner input.old)) }
+    ensures read { IfSome (bytes_ahead R.remaining front.old.items input.old) (λ bytes. ReadsStreamAs meaning_of result (npy_in A.NpyItem bytes)) }
+    ensures memory { result ≡ Err (File Memory) → 0 < length front.old.items }
+    ensures watch { AnswersAsWatched input.old input.new result }
+{
+    heads_need_no_more();
+    match head_of(alloc, front) {
+        Ok((header, start)) => {
+            drop_front(front, start);
+            array_ahead(alloc, &header, front, input, piece)
+        }
+        Err(error) => Err(ReadNpyFromError::File(error)),
+    }
+}
+
+/// Returns the array that the bytes of a stream mean, which is read into `piece` again and again.
+fn read_by_pieces<A: NpyItem, R: Read>(
+    alloc: Global,
+    input: &mut Watched<R>,
+    piece: &mut [u8],
+) -> Result<ArrayD<A>, ReadNpyFromError>
+    requires fine { watched_failed input.old ≡ false }
+    requires not_empty { 0 < length piece.old }
+    ensures read { IfSome (R.remaining (watched_inner input.old)) (λ bytes. ReadsStreamAs meaning_of result (npy_in A.NpyItem bytes)) }
+    ensures memory { result ≡ Err (File Memory) → IfSome (R.remaining (watched_inner input.old)) (λ bytes. 0 < length bytes) }
+    ensures watch { AnswersAsWatched input.old input.new result }
+{
+    match read_front(alloc, input, piece) {
+        Ok(mut front) => array_behind(alloc, &mut front, input, piece),
         Err(error) => Err(error),
     }
 }
@@ -79,19 +124,8 @@ pub fn read_npy_from<A: NpyItem, R: Read>(
     if input.failed() {
         return Err(ReadNpyFromError::ReadFailed);
     }
-    heads_need_no_more();
     let mut piece = [0; PIECE_LEN];
-    let mut front = match read_front(alloc, input, &mut piece) {
-        Ok(front) => front,
-        Err(error) => return Err(error),
-    };
-    match head_of(alloc, &front) {
-        Ok((header, start)) => {
-            drop_front(&mut front, start);
-            array_ahead(alloc, &header, front, input, &mut piece)
-        }
-        Err(error) => Err(ReadNpyFromError::File(error)),
-    }
+    read_by_pieces(alloc, input, &mut piece)
 }
 
 /// The size in bytes of the buffer for one read, which is what a pipe holds.

@@ -27,11 +27,11 @@ impl NpyItem for u8 {
     }
 
     fn from_bytes(_order: ByteOrder, bytes: &[u8]) -> u8 {
-        u8::from_le_bytes([bytes[0]])
+        bytes[0]
     }
 
     fn append_to(self, _order: ByteOrder, bytes: &mut Vec<u8>) -> Result<(), AllocError> {
-        bytes.extend_from_slice(&self.to_le_bytes())
+        bytes.extend_from_slice(&[self])
     }
 
     ghost sizes = { λ kind is. size_is kinds.UInt8 kind is };

@@ -1,10 +1,12 @@
 //! Writing the bytes of the file of an array.
 
 ghost use Rattle.std.specs.Prelude.{◌≡◌, ◌++◌, ◌≤◌, ◌↔◌, length, All, IfOk, OnOk, IsTrue};
+ghost use Rattle.std.specs.Iterator.{IsFinite};
 ghost use Rattle.std.specs.List.{flat_map};
 ghost use Rattle.nd_array_core.specs.ArrayMeaning.{meaning_of, shape_of};
 ghost use Rattle.nd_elements.specs.ShapeAndElements.{row_major_elements};
 ghost use Rattle.nd_npy.specs.FileBytesAndArrays.{data_of, file_of, file_in, listed_elements, little_items};
+ghost use Rattle.nd_npy.specs.WrittenElements.{GivesElements, WritesAll};
 ghost use Rattle.nd_npy.specs.StreamReadsAndWrites.{LiesInFortranOrder};
 
 use crate::item::{NpyItem, NpyNumber};
@@ -13,6 +15,22 @@ use nd_iter::iter;
 use nd_npy_text::writer::header_bytes;
 use nd_npy_text::{ByteOrder, ItemType, Kind};
 use std::alloc::{AllocError, Global};
+
+/// Appends the bytes of the elements that `items` gives, one after another, to `bytes`.
+fn append_given<'a, A: NpyItem + 'a, I: Iterator<Item = &'a A>>(
+    bytes: &mut Vec<u8>,
+    order: ByteOrder,
+    items: I,
+) -> Result<(), AllocError>
+    requires can { I.can_next items }
+    requires finite { IsFinite (I.remaining items) }
+    ensures { (rest : _) → GivesElements I.next_gives rest → OnOk result (WritesAll A.NpyItem order (rest items) bytes.old.items bytes.new.items) }
+{
+    for item in items {
+        item.append_to(order, bytes)?;
+    }
+    Ok(())
+}
 
 /// Appends the bytes of the elements in row-major order, one after another, to `bytes`, whatever the layout is.
 fn append_each<A: NpyItem, S: Data<Elem = A>, D: Dimension>(
@@ -23,10 +41,7 @@ fn append_each<A: NpyItem, S: Data<Elem = A>, D: Dimension>(
     ensures written { OnOk result (bytes.new.items ≡ bytes.old.items ++ data_of A.NpyItem order (meaning_of array.now)) }
     ensures fits { OnOk result (All A.fits (row_major_elements (meaning_of array.now))) }
 {
-    for item in iter(array) {
-        item.append_to(order, bytes)?;
-    }
-    Ok(())
+    append_given(bytes, order, iter(array))
 }
 
 /// Appends the bytes of the elements in row-major order, one after another, to `bytes`.
@@ -50,7 +65,7 @@ fn append_elements<A: NpyItem, S: Data<Elem = A>, D: Dimension>(
 /// # Errors
 ///
 /// Fails with `NoMemory` if memory for the bytes is refused.
-#[tactic(auto, unfolding(crate::specs::FileBytesAndArrays::file_of))]
+#[tactic(auto, unfolding(crate::specs::FileBytesAndArrays::file_of, crate::specs::FileBytesAndArrays::file_in))]
 pub fn npy_bytes_as<A: NpyItem, S: Data<Elem = A>, D: Dimension>(
     alloc: Global,
     item_type: ItemType,
@@ -60,10 +75,7 @@ pub fn npy_bytes_as<A: NpyItem, S: Data<Elem = A>, D: Dimension>(
     ensures written { IfOk result (λ v. v.items ≡ file_of A.NpyItem item_type (meaning_of array.now)) }
     ensures fits { IfOk result (λ _. All A.fits (row_major_elements (meaning_of array.now))) }
 {
-    let dim = array.raw_dim();
-    let mut bytes = header_bytes(alloc, item_type, false, dim.slice())?;
-    append_elements(&mut bytes, item_type.order, array)?;
-    Ok(bytes)
+    npy_bytes_in(alloc, item_type, false, array)
 }
 
 /// Returns the type of items of a kind that are written: with the least significant byte first.

@@ -11,15 +11,17 @@ use Rattle.nd_npy.specs.declared.errors.ReadNpyError.{ReadNpyError}
 use Rattle.nd_npy.specs.declared.errors.ReadNpyError.TheVariants.{WrongSize}
 use Rattle.nd_npy.specs.FileBytesAndArrays.{data_size, array_of_items, array_after_head, npy_in, file_of, IsNpyCause}
 use Rattle.nd_npy_steps.specs.declared.errors.Refusal.{Refusal}
+use Rattle.nd_npy_steps.specs.declared.errors.NpyStepsError.{NpyStepsError}
+use Rattle.nd_npy_steps.specs.declared.errors.NpyStepsError.TheVariants.{Refused}
 use Rattle.nd_npy_steps.specs.ViewSelectAndReshapeSteps.{AskedNpyStep}
-use Rattle.nd_npy_steps.specs.StepListResults.{array_after_steps, rest_of_steps}
+use Rattle.nd_npy_steps.specs.StepListResults.{array_after_steps, rest_of_steps, GivesArrayAfterSome}
 use Rattle.nd_npy_steps.proofs.StepListsJoined.{after_all}
 use Rattle.nd_npy_run.specs.declared.output_or_fault.Fault.{Fault}
 use Rattle.nd_npy_run.specs.declared.output_or_fault.Fault.TheVariants as faults
 use Rattle.nd_npy_run.specs.declared.wanted_outputs.Wanted.{Wanted}
 use Rattle.nd_npy_run.specs.Reductions.{reduced_file}
 use Rattle.nd_npy_run.specs.OutputAndStatus.{ComesOfArray, ComesOfSteps}
-use Rattle.nd_npy_run.specs.FilesAfterSteps.{wanted_text, Items, IsFile, file_text, HasItems, HasWrongSize, IsRefused}
+use Rattle.nd_npy_run.specs.FilesAfterSteps.{wanted_text, Items, IsFile, file_text, HasItems, HasWrongSize, IsRefused, ReadsItems}
 
 -- a head has bytes
 pub some_head : (bytes : List ℕ) (x : Description × ℕ) → npy_header_in bytes ≡ Ok x → 0 < length bytes
@@ -75,6 +77,17 @@ module _ (item : npy_item.Ghosts (List ℕ)) (bytes : List ℕ) (item_type : Ite
   items_wrong n expected found error cause is has accepts =
       wrong_is item bytes has.0 has.1 has.2 (taken n has accepts) expected found (subst (λ e. IsNpyCause e (npy_in item bytes)) is cause)
 
+-- no array is read
+pub array_fails : (wanted : Wanted) (steps : List AskedNpyStep) (bytes : List ℕ) (item_type : ItemType) (fault : Fault) → ReadsItems bytes item_type (Err fault) → ComesOfSteps wanted steps bytes (Err fault)
+array_fails wanted steps bytes item_type (faults.BadStep number word) none = absurd none
+array_fails wanted steps bytes item_type (faults.BadHead error) none = absurd none
+array_fails wanted steps bytes item_type (faults.WrongSize expected found) none = none
+array_fails wanted steps bytes item_type (faults.Refused refusal) none = absurd none
+array_fails wanted steps bytes item_type (faults.NoText kind) none = absurd none
+array_fails wanted steps bytes item_type (faults.NotReduced error) none = absurd none
+array_fails wanted steps bytes item_type faults.Memory none = none
+array_fails wanted steps bytes item_type faults.ReadFailed none = absurd none
+
 -- the file of an array of items
 pub raw_file : (item : npy_item.Ghosts (List ℕ)) (item_type : ItemType) (m : Items) → item.bytes_of ≡ (λ order x. x) → file_of item item_type m ≡ file_text item_type m
 unfolding file_of
@@ -106,6 +119,10 @@ module _ (steps : List AskedNpyStep) (bytes : List ℕ) (item_type : ItemType) (
 
   pub refused_first : (refusal : Refusal) → array_after_steps steps m ≡ Err refusal → IsRefused steps bytes refusal
   refused_first refusal after = (is.0, m, is.1, after)
+
+  -- a step that may copy elements is refused
+  pub refused_taking : (done : ℕ) (error : NpyStepsError) (refusal : Refusal) → error ≡ Refused refusal → GivesArrayAfterSome {X = Items} (λ n. n) done steps m (Err error) → IsRefused steps bytes refusal
+  refused_taking done error refusal same none = refused_first refusal (subst (λ e. GivesArrayAfterSome {X = Items} (λ n. n) done steps m (Err e)) same none)
 
   pub refused_then : (done : ℕ) (a v : Items) (refusal : Refusal) → done ≤ length steps → array_after_steps (take done steps) m ≡ Ok a → v ≡ a → rest_of_steps done steps v ≡ Err refusal → IsRefused steps bytes refusal
   refused_then done a v refusal few first same rest = refused_first refusal (after_all steps done m a few first ∙ ap (rest_of_steps done steps) (sym same) ∙ rest)

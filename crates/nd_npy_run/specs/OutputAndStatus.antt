@@ -8,7 +8,7 @@ use Rattle.nd_shape_and_slice.specs.declared.dimension.AxisCount as axis_count
 use Rattle.nd_shape_and_slice.specs.declared.dimension.StrideList as stride_list
 use Rattle.nd_array_core.specs.declared.base.array.ArrayBase.{ArrayBase}
 use Rattle.nd_array_core.specs.Data as data_trait
-use Rattle.nd_array_core.specs.ArrayMeaning.{meaning_of}
+use Rattle.nd_array_core.specs.ArrayMeaning.{Meaning, meaning_of}
 use Rattle.nd_text.specs.declared.watched_streams.Watched.{Watched}
 use Rattle.nd_text.specs.WatchedReadersAndWriters.{watched_inner, watched_failed, GetsFlushed}
 use Rattle.nd_text.specs.BufferedPrinting.{TakesText}
@@ -23,7 +23,7 @@ use Rattle.nd_npy_run.specs.declared.wanted_outputs.Wanted.{Wanted}
 use Rattle.nd_npy_run.specs.declared.wanted_outputs.Wanted.TheVariants.{Text}
 use Rattle.nd_npy_run.specs.declared.output_or_fault.Fault.TheVariants.{BadStep, BadHead, WrongSize, Refused, NoText, NotReduced, Memory, ReadFailed}
 use Rattle.nd_npy_run.specs.ItemTexts.{has_text}
-use Rattle.nd_npy_run.specs.Reductions.{lanes_written}
+use Rattle.nd_npy_run.specs.Reductions.{lanes_written, numbers_written}
 use Rattle.nd_npy_run.specs.ErrorTexts.{npy_line_text, npy_write_failure_text, npy_fault_text}
 use Rattle.nd_npy_run.specs.FilesAfterSteps.{TurnsInto, IsRefused, HasWrongSize, HasNoHead, HasNoText, HasNoReduction, IsNotReduced, wanted_text, Items}
 
@@ -48,6 +48,10 @@ ComesOfReduced reduced (Ok file) = reduced ≡ Ok file
 ComesOfReduced reduced (Err (NotReduced error)) = reduced ≡ Err error
 ComesOfReduced reduced (Err Memory) = Unit {0}
 ComesOfReduced reduced (Err _) = ⊥
+
+-- Says that the result is the file of the array `m` of numbers. Memory may run out.
+abbrev pub ComesOfNumbers : {B : Type 0} → npy_item.Ghosts B → Kind → Meaning B → Result (List ℕ) Fault → Type 0
+ComesOfNumbers item kind m result = ComesOfReduced (Ok (numbers_written item kind m)) result
 
 -- Says that the words are no list of steps.
 abbrev pub AreNoNpySteps : List (List ℕ) → Type 0

@@ -1,5 +1,5 @@
 -- The sum, the mean, the least and the greatest element of each lane along an axis, and the files of the arrays of these.
-use Rattle.std.specs.Prelude.{◌≡◌, ◌+◌, ◌%◌, ◌^◌, ◌&&◌, ◌==◌, not, nat_lt, ℕ, ℤ, pos, Bool, true, false, List, [], ◌∷◌, ◌++◌, length, slice_index, Option, Some, Result, Ok, Err, IfOk, if◌then◌else◌, to_bits, from_bits}
+use Rattle.std.specs.Prelude.{◌+◌, ◌%◌, ◌^◌, ◌&&◌, ◌==◌, not, nat_lt, ℕ, ℤ, pos, Bool, true, false, List, [], ◌∷◌, ◌++◌, length, slice_index, Option, Some, Result, Ok, Err, if◌then◌else◌, to_bits, from_bits}
 use Rattle.std.specs.List.{fold, reduce, flat_map}
 use Rattle.std.specs.Option.{option_map, unwrap_or}
 use Rattle.std.specs.Int.{w8, w16, w32, w64, cast_signed, cast_unsigned, from_bool, int_wrapping_add, to_le_bytes}
@@ -7,7 +7,6 @@ use Rattle.std.specs.Float.{Float, Format, binary32, binary64, float_zero}
 use Rattle.std.specs.Float.Ieee.{add, div, of_int}
 use Rattle.std.specs.Ordering.{nat_cmp, int_cmp, nan_last_cmp}
 use Rattle.std.specs.declared.cmp.Ordering.{Ordering}
-use Rattle.std.specs.declared.vec.Vec.{Vec}
 use Rattle.nd_shape_and_slice.specs.LayoutIndexMaps.{indexed_shape}
 use Rattle.nd_shape_and_slice.specs.declared.dimension.Dimension as dimension
 use Rattle.nd_shape_and_slice.specs.declared.dimension.AxisCount as axis_count
@@ -15,7 +14,7 @@ use Rattle.nd_shape_and_slice.specs.declared.dimension.StrideList as stride_list
 use Rattle.nd_elements.specs.ShapeAndElements.{Meaning, inside, row_major_elements}
 use Rattle.nd_array_core.specs.declared.base.array.ArrayBase.{ArrayBase}
 use Rattle.nd_array_core.specs.Data as data_trait
-use Rattle.nd_array_core.specs.ArrayMeaning.{meaning_of, shape_of}
+use Rattle.nd_array_core.specs.ArrayMeaning.{shape_of}
 use Rattle.nd_array_core.specs.along.AxisFolds.{lane_elements}
 use Rattle.nd_numeric.specs.LeastAndGreatest.{lesser_by, greater_by}
 use Rattle.nd_npy_text.specs.declared.item_type.ItemType.{ItemType}
@@ -34,8 +33,8 @@ use Rattle.nd_npy_run.specs.declared.reduction.ReductionError.TheVariants.{NoAxi
 
 -- ---- The array of what is made of each lane
 
--- Returns the array of the values of items, where `value` gives the value of an item's bytes.
-abbrev pub values_of : {A : Type 0} → (List ℕ → A) → Meaning (List ℕ) → Meaning A
+-- Returns the array of the values of items, where `value` gives the value of an item, for example that of its bytes.
+abbrev pub values_of : {X A : Type 0} → (X → A) → Meaning X → Meaning A
 values_of value m = record { shape = m.shape; at = λ i. option_map value (m.at i) }
 
 -- Returns the array that has, at each index of the axes other than `axis`, what `made` gives for all elements of the lane
@@ -50,6 +49,10 @@ lanes_reduced made axis m = record {
 -- number first. `bytes_of` gives the bytes of a number.
 abbrev pub numbers_file : {B : Type 0} → Kind → (B → List ℕ) → Meaning B → List ℕ
 numbers_file kind bytes_of m = npy_header_text (described (little_items kind) false m.shape) ++ flat_map bytes_of (row_major_elements m)
+
+-- Returns the same file, where a number is written as a value of the type of elements `item`.
+abbrev pub numbers_written : {B : Type 0} → npy_item.Ghosts B → Kind → Meaning B → List ℕ
+numbers_written item kind m = numbers_file kind (item.bytes_of (little_items kind).order) m
 
 -- Returns the file of what `made` gives for the values of each lane of an array of items.
 abbrev pub lanes_file : {A B : Type 0} → Kind → (B → List ℕ) → (List A → B) → (List ℕ → A) → ℕ → Meaning (List ℕ) → List ℕ
@@ -212,10 +215,6 @@ reduced_file reduction axis item_type m =
     if nat_lt axis (length m.shape) then (if wants_elements reduction && (slice_index m.shape axis == 0) then Err (NoElements axis) else made_file reduction item_type axis m) else Err (NoAxis axis (length m.shape))
 
 module _ {S D T R : Type 0} {s : data_trait.Ghosts S (List ℕ)} {d : dimension.Ghosts D R} {n : axis_count.Ghosts D} {r : stride_list.Ghosts R} {t : stride_list.Ghosts T} where
-  -- Says that what was made is the file of what `made` gives for the values of each lane of an array of items.
-  abbrev pub MakesLanes : {A B E Z : Type 0} → npy_item.Ghosts B → Kind → (List A → B) → (List ℕ → A) → ℕ → ArrayBase S D T (List ℕ) R s d n r t → Result (Vec ℕ Z) E → Type 0
-  MakesLanes item kind made value axis a result = IfOk result (λ v. v.items ≡ lanes_written item kind made value axis (meaning_of a))
-
   -- Returns the length of the axis of an array of items.
   abbrev pub length_along : ArrayBase S D T (List ℕ) R s d n r t → ℕ → ℕ
   length_along a axis = slice_index (shape_of a) axis

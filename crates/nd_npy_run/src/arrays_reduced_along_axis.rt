@@ -3,17 +3,17 @@
 ghost use Rattle.std.specs.Prelude.{◌≡◌, ◌<◌, IfOk, slice_index, length};
 ghost use Rattle.nd_shape_and_slice.specs.LayoutIndexMaps.{indexed_shape};
 ghost use Rattle.nd_array_core.specs.ArrayMeaning.{meaning_of, shape_of, element_at};
-ghost use Rattle.nd_elements.specs.elements.ElementMaps.{IsMappedBy};
 ghost use Rattle.nd_npy_text.specs.ItemTypes.{kind_size};
 ghost use Rattle.nd_numeric.specs.LeastAndGreatest.{AreLaneEnds};
 ghost use Rattle.nd_numeric.specs.SumsProductsAndMeans.{HasMeans};
-ghost use Rattle.nd_npy_run.specs.OutputAndStatus.{bytes_made, ComesOfLanes, ComesOfReduced};
-ghost use Rattle.nd_npy_run.specs.Reductions.{lane_end, end_written, ends_file, kept_by, length_along, mean_by, means_file, MakesLanes, read_as, reduced_file, lane_sum, sums_file};
+ghost use Rattle.nd_npy_run.specs.OutputAndStatus.{bytes_made, ComesOfLanes, ComesOfNumbers, ComesOfReduced};
+ghost use Rattle.nd_npy_run.specs.Reductions.{lane_end, end_written, ends_file, kept_by, lanes_reduced, length_along, mean_by, means_file, read_as, reduced_file, lane_sum, sums_file, values_of};
 
 use crate::conversions::Converts;
+use crate::item_numbers::{Items, numbers_of};
 use crate::output_or_fault::Fault;
 use crate::reduction::{Reduction, ReductionError};
-use nd_array_core::{ArrayD, ArrayView, Axis, IxDyn, NoMemory};
+use nd_array_core::{ArrayD, Axis, NoMemory};
 use nd_npy::writer::npy_bytes;
 use nd_npy::{NpyItem, NpyNumber};
 use nd_npy_text::{ByteOrder, ItemType, Kind};
@@ -22,52 +22,29 @@ use nd_numeric::{max_axis, mean_axis, min_axis, sum_axis};
 use num_traits::Zero;
 use std::alloc::Global;
 
-/// Items as they lie in a file.
-type Items<'a, const N: usize> = ArrayView<'a, [u8; N], IxDyn>;
-
-/// Returns the number that an item is.
-fn number_of<I: NpyItem + Converts<A>, A, const N: usize>(order: ByteOrder, item: &[u8; N]) -> A
-    requires { I.size ≡ N }
-    ensures { result ≡ read_as I.NpyItem I.converted order item.now }
+/// Returns the file of an array of numbers, or fails with `Memory` if memory is refused.
+fn written_file<B: NpyNumber>(alloc: Global, numbers: &ArrayD<B>) -> Result<Vec<u8>, Fault<'static>>
+    ensures { ComesOfNumbers B.NpyItem B.kind (meaning_of numbers.now) (bytes_made result) }
 {
-    I::from_bytes(order, item.as_slice()).converted()
+    match npy_bytes(alloc, numbers) {
+        Ok(file) => Ok(file),
+        Err(_) => Err(Fault::Memory),
+    }
 }
 
-/// Returns the array of the numbers that the items are.
-fn numbers_of<I: NpyItem + Converts<A>, A, const N: usize>(
+/// Returns the file of the sums of the lanes along an axis.
+fn sums<A: Arithmetic + NpyNumber>(
     alloc: Global,
-    order: ByteOrder,
-    array: &Items<'_, N>,
-) -> Result<ArrayD<A>, NoMemory>
-    requires { I.size ≡ N }
-    ensures shape { IfOk result (λ a. shape_of a ≡ shape_of array.now) }
-    ensures numbers { IfOk result (λ a. IsMappedBy (read_as I.NpyItem I.converted order) (element_at array.now) (element_at a)) }
-{
-    let numbers = array.map(
-        alloc,
-        |item|
-            requires { I.size ≡ N }
-            ensures { result ≡ read_as I.NpyItem I.converted order item.now }
-        { number_of::<I, A, N>(order, item) },
-    )?;
-    Ok(numbers)
-}
-
-/// Returns the file of the sums of the lanes along an axis, where an item is a value of `I` and is added as an `A`.
-fn sums<I: NpyItem + Converts<A>, A: Arithmetic + NpyNumber, const N: usize>(
-    alloc: Global,
-    order: ByteOrder,
     axis: Axis,
-    array: &Items<'_, N>,
-) -> Result<Vec<u8>, NoMemory>
-    requires size { I.size ≡ N }
-    requires axis { axis.0 < length (shape_of array.now) }
-    ensures { MakesLanes A.NpyItem A.kind (lane_sum A.plus A.zero) (read_as I.NpyItem I.converted order) axis.0 array.now result }
+    numbers: &ArrayD<A>,
+) -> Result<Vec<u8>, Fault<'static>>
+    requires { axis.0 < length (shape_of numbers.now) }
+    ensures { ComesOfNumbers A.NpyItem A.kind (lanes_reduced (lane_sum A.plus A.zero) axis.0 (meaning_of numbers.now)) (bytes_made result) }
 {
-    let numbers = numbers_of::<I, A, N>(alloc, order, array)?;
-    let sums = sum_axis(alloc, &numbers, axis)?;
-    let file = npy_bytes(alloc, &sums)?;
-    Ok(file)
+    match sum_axis(alloc, numbers, axis) {
+        Ok(sums) => written_file(alloc, &sums),
+        Err(_) => Err(Fault::Memory),
+    }
 }
 
 /// Returns the mean of each lane along an axis, which must not have length 0.
@@ -87,23 +64,20 @@ fn lane_means<A: Arithmetic>(
     }
 }
 
-/// Returns the file of the means of the lanes along an axis, which must not have length 0. An item is a value of `I` and
-/// is added as an `A`.
-fn means<I: NpyItem + Converts<A>, A: Arithmetic + NpyNumber, const N: usize>(
+/// Returns the file of the means of the lanes along an axis, which must not have length 0.
+fn means<A: Arithmetic + NpyNumber>(
     alloc: Global,
-    order: ByteOrder,
     axis: Axis,
-    array: &Items<'_, N>,
-) -> Result<Vec<u8>, NoMemory>
-    requires size { I.size ≡ N }
-    requires axis { axis.0 < length (shape_of array.now) }
-    requires some { 0 < slice_index (shape_of array.now) axis.0 }
-    ensures { MakesLanes A.NpyItem A.kind (mean_by A.plus A.over A.zero A.of_count (length_along array.now axis.0)) (read_as I.NpyItem I.converted order) axis.0 array.now result }
+    numbers: &ArrayD<A>,
+) -> Result<Vec<u8>, Fault<'static>>
+    requires axis { axis.0 < length (shape_of numbers.now) }
+    requires some { 0 < slice_index (shape_of numbers.now) axis.0 }
+    ensures { ComesOfNumbers A.NpyItem A.kind (lanes_reduced (mean_by A.plus A.over A.zero A.of_count (slice_index (shape_of numbers.now) axis.0)) axis.0 (meaning_of numbers.now)) (bytes_made result) }
 {
-    let numbers = numbers_of::<I, A, N>(alloc, order, array)?;
-    let means = lane_means(alloc, axis, &numbers)?;
-    let file = npy_bytes(alloc, &means)?;
-    Ok(file)
+    match lane_means(alloc, axis, numbers) {
+        Ok(means) => written_file(alloc, &means),
+        Err(_) => Err(Fault::Memory),
+    }
 }
 
 /// Returns the greatest element of each lane along an axis, or the least one.
@@ -134,32 +108,43 @@ fn written_end<I, A: Zero + Converts<I>>(end: Option<A>) -> I
     }
 }
 
-/// Returns the file of the greatest elements of the lanes along an axis, or of the least ones. An item is a value of `I`
-/// and is compared as an `A`.
-fn ends<I: NpyNumber + Converts<A>, A: Ordered + Zero + Converts<I>, const N: usize>(
+/// Returns the file of what is kept of each lane, or of 0 where that is nothing.
+fn ends_file<I: NpyNumber, A: Zero + Converts<I>>(
     alloc: Global,
-    order: ByteOrder,
-    greatest: bool,
-    axis: Axis,
-    array: &Items<'_, N>,
-) -> Result<Vec<u8>, NoMemory>
-    requires size { I.size ≡ N }
-    requires axis { axis.0 < length (shape_of array.now) }
-    ensures { MakesLanes I.NpyItem I.kind (λ xs. A.converted (lane_end greatest A.order A.zero xs)) (read_as I.NpyItem I.converted order) axis.0 array.now result }
+    ends: &ArrayD<Option<A>>,
+) -> Result<Vec<u8>, Fault<'static>>
+    ensures { ComesOfNumbers I.NpyItem I.kind (values_of (end_written A.converted A.zero) (meaning_of ends.now)) (bytes_made result) }
 {
-    let numbers = numbers_of::<I, A, N>(alloc, order, array)?;
-    let ends = lane_ends(alloc, greatest, axis, &numbers)?;
     let written = ends.map(
         alloc,
         |end|
             ensures { result ≡ end_written A.converted A.zero end.now }
         { written_end::<I, A>(*end) },
-    )?;
-    let file = npy_bytes(alloc, &written)?;
-    Ok(file)
+    );
+    match written {
+        Ok(written) => written_file(alloc, &written),
+        Err(_) => Err(Fault::Memory),
+    }
 }
 
-/// Does what `sums` does, and fails with `Memory` if memory is refused.
+/// Returns the file of the greatest elements of the lanes along an axis, or of the least ones. They are written as items
+/// of type `I`.
+fn ends<I: NpyNumber, A: Ordered + Zero + Converts<I>>(
+    alloc: Global,
+    greatest: bool,
+    axis: Axis,
+    numbers: &ArrayD<A>,
+) -> Result<Vec<u8>, Fault<'static>>
+    requires { axis.0 < length (shape_of numbers.now) }
+    ensures { ComesOfNumbers I.NpyItem I.kind (lanes_reduced (λ xs. A.converted (lane_end greatest A.order A.zero xs)) axis.0 (meaning_of numbers.now)) (bytes_made result) }
+{
+    match lane_ends(alloc, greatest, axis, numbers) {
+        Ok(ends) => ends_file::<I, A>(alloc, &ends),
+        Err(_) => Err(Fault::Memory),
+    }
+}
+
+/// Returns the file of the sums of the lanes along an axis, where an item is a value of `I` and is added as an `A`.
 fn sums_as<I: NpyItem + Converts<A>, A: Arithmetic + NpyNumber, const N: usize>(
     alloc: Global,
     order: ByteOrder,
@@ -170,8 +155,8 @@ fn sums_as<I: NpyItem + Converts<A>, A: Arithmetic + NpyNumber, const N: usize>(
     requires axis { axis.0 < length (shape_of array.now) }
     ensures { ComesOfLanes A.NpyItem A.kind (lane_sum A.plus A.zero) (read_as I.NpyItem I.converted order) axis.0 array.now (bytes_made result) }
 {
-    match sums::<I, A, N>(alloc, order, axis, array) {
-        Ok(file) => Ok(file),
+    match numbers_of::<I, A, N>(alloc, order, array) {
+        Ok(numbers) => sums(alloc, axis, &numbers),
         Err(_) => Err(Fault::Memory),
     }
 }
@@ -204,7 +189,8 @@ fn sums_bytes<const N: usize>(
     }
 }
 
-/// Does what `means` does, and fails with `Memory` if memory is refused.
+/// Returns the file of the means of the lanes along an axis, which must not have length 0. An item is a value of `I` and
+/// is added as an `A`.
 fn means_as<I: NpyItem + Converts<A>, A: Arithmetic + NpyNumber, const N: usize>(
     alloc: Global,
     order: ByteOrder,
@@ -216,8 +202,8 @@ fn means_as<I: NpyItem + Converts<A>, A: Arithmetic + NpyNumber, const N: usize>
     requires some { 0 < slice_index (shape_of array.now) axis.0 }
     ensures { ComesOfLanes A.NpyItem A.kind (mean_by A.plus A.over A.zero A.of_count (length_along array.now axis.0)) (read_as I.NpyItem I.converted order) axis.0 array.now (bytes_made result) }
 {
-    match means::<I, A, N>(alloc, order, axis, array) {
-        Ok(file) => Ok(file),
+    match numbers_of::<I, A, N>(alloc, order, array) {
+        Ok(numbers) => means(alloc, axis, &numbers),
         Err(_) => Err(Fault::Memory),
     }
 }
@@ -251,7 +237,8 @@ fn means_bytes<const N: usize>(
     }
 }
 
-/// Does what `ends` does, and fails with `Memory` if memory is refused.
+/// Returns the file of the greatest elements of the lanes along an axis, or of the least ones. An item is a value of `I`
+/// and is compared as an `A`.
 fn ends_as<I: NpyNumber + Converts<A>, A: Ordered + Zero + Converts<I>, const N: usize>(
     alloc: Global,
     order: ByteOrder,
@@ -263,8 +250,8 @@ fn ends_as<I: NpyNumber + Converts<A>, A: Ordered + Zero + Converts<I>, const N:
     requires axis { axis.0 < length (shape_of array.now) }
     ensures { ComesOfLanes I.NpyItem I.kind (λ xs. A.converted (lane_end greatest A.order A.zero xs)) (read_as I.NpyItem I.converted order) axis.0 array.now (bytes_made result) }
 {
-    match ends::<I, A, N>(alloc, order, greatest, axis, array) {
-        Ok(file) => Ok(file),
+    match numbers_of::<I, A, N>(alloc, order, array) {
+        Ok(numbers) => ends::<I, A>(alloc, greatest, axis, &numbers),
         Err(_) => Err(Fault::Memory),
     }
 }

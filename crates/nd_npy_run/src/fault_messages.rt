@@ -3,6 +3,7 @@
 ghost use Rattle.std.specs.Prelude.{◌≡◌};
 ghost use Rattle.std.specs.Fmt.{decimal};
 ghost use Rattle.nd_npy_text.specs.ErrorTexts.{header_error_text};
+ghost use Rattle.nd_npy_text.specs.declared.errors.HeaderError.TheVariants.{BadByte, UnknownVersion};
 ghost use Rattle.nd_npy_steps.specs.ErrorTexts.{step_refusal_text};
 ghost use Rattle.nd_npy_run.specs.ErrorTexts.{bad_step_line, size_line, no_text_line, npy_fault_text, reduction_line, word_needs_text};
 ghost use Rattle.nd_text.specs.BufferedPrinting.{Puts};
@@ -11,7 +12,7 @@ use crate::output_or_fault::Fault;
 use crate::reduction::{ReductionError, reduction_named};
 use itoa::Buffer;
 use nd_npy_steps::{Refusal, cause_told, step_needs};
-use nd_npy_text::{HeaderError, Kind};
+use nd_npy_text::{HeaderError, HeaderFlaw, Kind};
 use nd_text::buffered_printing::{put, put_number};
 use nd_text::{Page, Watched};
 use std::io::Write;
@@ -46,26 +47,36 @@ fn put_step<W: Write>(output: &mut Watched<W>, page: &mut Page, number: usize, w
     put(output, page, word_needs(word).as_bytes());
 }
 
+/// Writes that a version of the format isn't known, buffered in `page`.
+fn put_version<W: Write>(output: &mut Watched<W>, page: &mut Page, major: u8, minor: u8)
+    ensures { Puts W.contents output.old page.old output.new page.new (header_error_text (UnknownVersion major minor)) }
+{
+    put(output, page, b"the version ");
+    put_number(output, page, &mut Buffer::new(), &major);
+    put(output, page, b".");
+    put_number(output, page, &mut Buffer::new(), &minor);
+    put(output, page, b" isn't known");
+}
+
+/// Writes which byte of a head is wrong, and why. All is buffered in `page`.
+fn put_bad_byte<W: Write>(output: &mut Watched<W>, page: &mut Page, byte: usize, flaw: HeaderFlaw)
+    ensures { Puts W.contents output.old page.old output.new page.new (header_error_text (BadByte byte flaw)) }
+{
+    put(output, page, b"byte ");
+    put_count(output, page, byte);
+    put(output, page, b": ");
+    put(output, page, flaw.text().as_bytes());
+}
+
 /// Writes why a head can't be read, buffered in `page`.
 fn put_head_error<W: Write>(output: &mut Watched<W>, page: &mut Page, error: HeaderError)
     ensures { Puts W.contents output.old page.old output.new page.new (header_error_text error) }
 {
     match error {
         HeaderError::NoMagic => put(output, page, b"this is no .npy file"),
-        HeaderError::UnknownVersion { major, minor } => {
-            put(output, page, b"the version ");
-            put_number(output, page, &mut Buffer::new(), &major);
-            put(output, page, b".");
-            put_number(output, page, &mut Buffer::new(), &minor);
-            put(output, page, b" isn't known");
-        }
+        HeaderError::UnknownVersion { major, minor } => put_version(output, page, major, minor),
         HeaderError::TooShort => put(output, page, b"the head ends too early"),
-        HeaderError::BadByte { byte, flaw } => {
-            put(output, page, b"byte ");
-            put_count(output, page, byte);
-            put(output, page, b": ");
-            put(output, page, flaw.text().as_bytes());
-        }
+        HeaderError::BadByte { byte, flaw } => put_bad_byte(output, page, byte, flaw),
         HeaderError::TooLarge => put(output, page, b"the shape is too large"),
         HeaderError::Memory => put(output, page, b"out of memory"),
     }

@@ -4,6 +4,7 @@
 mod arrays_reduced_along_axis;
 mod conversions;
 mod fault_messages;
+mod item_numbers;
 mod output_or_fault;
 mod printed_arrays;
 pub mod program;

@@ -1,49 +1,21 @@
 //! The text of an array of items, which are read as numbers or as truth values.
 
 ghost use Rattle.std.specs.Prelude.{◌≡◌, ◌++◌, Some, is_some, false, codes, string_bytes, IfOk, IfSome, IsTrue};
-ghost use Rattle.nd_array_core.specs.ArrayMeaning.{meaning_of, shape_of, element_at};
+ghost use Rattle.nd_array_core.specs.ArrayMeaning.{meaning_of};
 ghost use Rattle.nd_array_core.specs.printing.ArrayTexts.{array_text};
-ghost use Rattle.nd_elements.specs.elements.ElementMaps.{IsMappedBy};
 ghost use Rattle.nd_npy_text.specs.ItemTypes.{kind_size};
 ghost use Rattle.nd_npy_run.specs.OutputAndStatus.{bytes_made, ComesOfArray, ComesOfText};
 ghost use Rattle.nd_npy_run.specs.FilesAfterSteps.{printed_as};
 ghost use Rattle.nd_npy_run.specs.declared.wanted_outputs.Wanted.TheVariants.{Text};
 
+use crate::item_numbers::{Items, numbers_of};
 use crate::output_or_fault::Fault;
 use nd_array_core::laws::elements_by_rank;
-use nd_array_core::{ArrayD, ArrayView, IxDyn, NoMemory};
+use nd_array_core::{ArrayD, NoMemory};
 use nd_npy::NpyItem;
 use nd_npy_text::{ByteOrder, ItemType, Kind};
 use std::alloc::{AllocError, Global};
 use std::fmt::Display;
-
-/// Returns the value that an item is.
-fn value_of<A: NpyItem, const N: usize>(order: ByteOrder, item: &[u8; N]) -> A
-    requires { A.size ≡ N }
-    ensures { result ≡ A.value_of order item.now }
-{
-    A::from_bytes(order, item.as_slice())
-}
-
-/// Returns the array of the values that the items are.
-fn values_of<A: NpyItem, const N: usize>(
-    alloc: Global,
-    order: ByteOrder,
-    array: &ArrayView<'_, [u8; N], IxDyn>,
-) -> Result<ArrayD<A>, NoMemory>
-    requires { A.size ≡ N }
-    ensures shape { IfOk result (λ a. shape_of a ≡ shape_of array.now) }
-    ensures values { IfOk result (λ a. IsMappedBy (A.value_of order) (element_at array.now) (element_at a)) }
-{
-    let values = array.map(
-        alloc,
-        |item|
-            requires { A.size ≡ N }
-            ensures { result ≡ A.value_of order item.now }
-        { value_of(order, item) },
-    )?;
-    Ok(values)
-}
 
 /// Returns the text of an array.
 fn text_of<A: Display>(alloc: Global, values: &ArrayD<A>) -> Result<String, AllocError>
@@ -65,14 +37,14 @@ fn line_of(text: String) -> Result<Vec<u8>, AllocError>
 fn text_bytes<A: NpyItem + Display, const N: usize>(
     alloc: Global,
     order: ByteOrder,
-    array: &ArrayView<'_, [u8; N], IxDyn>,
+    array: &Items<'_, N>,
 ) -> Result<Vec<u8>, NoMemory>
     requires size { A.size ≡ N }
     requires known { (x : A) → IsTrue (is_some (A.output x)) }
     ensures { IfOk result (λ v. printed_as (λ bytes. A.output (A.value_of order bytes)) (meaning_of array.now) ≡ Some v.items) }
 {
     elements_by_rank(array);
-    let values = values_of::<A, N>(alloc, order, array)?;
+    let values = numbers_of::<A, A, N>(alloc, order, array)?;
     let text = text_of(alloc, &values)?;
     let line = line_of(text)?;
     Ok(line)
@@ -82,7 +54,7 @@ fn text_bytes<A: NpyItem + Display, const N: usize>(
 fn printed_as<A: NpyItem + Display, const N: usize>(
     alloc: Global,
     order: ByteOrder,
-    array: &ArrayView<'_, [u8; N], IxDyn>,
+    array: &Items<'_, N>,
 ) -> Result<Vec<u8>, Fault<'static>>
     requires size { A.size ≡ N }
     requires known { (x : A) → IsTrue (is_some (A.output x)) }
@@ -99,7 +71,7 @@ fn printed_as<A: NpyItem + Display, const N: usize>(
 pub(crate) fn printed_bytes<const N: usize>(
     alloc: Global,
     item_type: ItemType,
-    array: &ArrayView<'_, [u8; N], IxDyn>,
+    array: &Items<'_, N>,
 ) -> Result<Vec<u8>, Fault<'static>>
     requires { kind_size item_type.kind ≡ N }
     ensures { ComesOfArray Text item_type (meaning_of array.now) (bytes_made result) }

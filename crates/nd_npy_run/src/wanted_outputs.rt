@@ -151,13 +151,10 @@ pub(crate) fn wanted_bytes<const N: usize>(
                 Err(_) => Err(Fault::Memory),
             }
         }
-        Wanted::Shape => {
-            let dim = array.raw_dim();
-            match shape_bytes(alloc, dim.slice()) {
-                Ok(text) => Ok(text),
-                Err(_) => Err(Fault::Memory),
-            }
-        }
+        Wanted::Shape => match shape_bytes(alloc, array.shape()) {
+            Ok(text) => Ok(text),
+            Err(_) => Err(Fault::Memory),
+        },
         Wanted::Text => printed_bytes(alloc, item_type, array),
         Wanted::Reduced { reduction, axis } => {
             reduced_bytes(alloc, reduction, axis, item_type, array)

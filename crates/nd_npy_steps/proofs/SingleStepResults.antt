@@ -1,5 +1,6 @@
 -- One step on an array: what it makes, or why it is refused.
-use Rattle.std.proofs.Common.{◌≡◌, ◌∙◌, ℕ, ◌<◌, ◌==◌, ◌^◌, false, List, Some, None, Ok, Err, refl, sym, ap}
+use Rattle.std.proofs.Common.{◌≡◌, ◌∙◌, ℕ, ◌<◌, ◌==◌, ◌^◌, false, List, length, get_or, Some, None, Ok, Err, refl, sym, ap}
+use Rattle.std.specs.Prelude.{slice_index}
 use Rattle.std.specs.Option.{option_map}
 use Rattle.std.proofs.lemmas.Bool.{ltb-true, eqb-true}
 use Rattle.nd_shape_and_slice.specs.ShapesAndIndexOrders.{size_of, nonzero_product}
@@ -16,7 +17,7 @@ use Rattle.nd_npy_steps.specs.declared.errors.StepCause.TheVariants.{Layout, Cou
 use Rattle.nd_npy_steps.specs.ViewSelectAndReshapeSteps.{AskedNpyStep, Viewed, Chosen, Regrouped}
 use Rattle.nd_npy_steps.specs.StepResults.{choice_tests, lengths_tests, npy_refusal, npy_step_shape, npy_step_meaning, npy_step_result}
 use Rattle.nd_npy_steps.specs.StepListResults.{numbered}
-use Rattle.nd_npy_steps.proofs.StepMapsLeadInside.{same_count, no_cause}
+use Rattle.nd_npy_steps.proofs.StepMapsLeadInside.{listed_below, same_count, no_cause}
 
 module _ {A : Type 0} (step : AskedNpyStep) (m : Meaning A) where
   -- a step that nothing is against
@@ -42,6 +43,17 @@ module _ {A : Type 0} (axis : ℕ) (indexes : List ℕ) (m : Meaning A) where
 
   pub chosen_lacks : first_failed (choice_tests axis indexes m.shape) ≡ None → 0 < size_of (selected_shape m.shape axis indexes) → (made : Meaning A) × (npy_step_result (Chosen axis indexes) m ≡ Ok made) × (0 < size_of made.shape)
   chosen_lacks free some = step_made (Chosen axis indexes) m (ap (option_map Layout) free) some
+
+  module _ (free : first_failed (choice_tests axis indexes m.shape) ≡ None) where
+    -- what can be chosen
+    pub choice_axis : axis < length m.shape
+    choice_axis = ltb-true axis (length m.shape) (all_passed _ _ _ free).0
+
+    pub choice_listed : (k d : ℕ) → k < length indexes → get_or indexes k d < slice_index m.shape axis
+    choice_listed k d lt = listed_below (slice_index m.shape axis) indexes k d (all_passed _ _ _ (all_passed _ _ _ free).1).0 lt
+
+    pub choice_checked : nonzero_product (selected_shape m.shape axis indexes) < 2 ^ 63
+    choice_checked = ltb-true (nonzero_product (selected_shape m.shape axis indexes)) (2 ^ 63) (all_passed _ _ _ (all_passed _ _ _ (all_passed _ _ _ free).1).1).0
 
 -- ---- Other lengths
 

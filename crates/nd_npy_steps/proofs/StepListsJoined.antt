@@ -7,10 +7,12 @@ use Rattle.nd_array_core.specs.ArrayMeaning.{Meaning}
 use Rattle.nd_steps.specs.StepListResults.{and_then}
 use Rattle.nd_npy_steps.specs.declared.errors.Refusal.{Refusal}
 use Rattle.nd_npy_steps.specs.declared.errors.StepCause.{StepCause}
+use Rattle.nd_npy_steps.specs.declared.errors.NpyStepsError.{NpyStepsError}
+use Rattle.nd_npy_steps.specs.declared.errors.NpyStepsError.TheVariants.{Refused, Memory}
 use Rattle.nd_npy_steps.specs.declared.step.NpyStep.{NpyStep}
 use Rattle.nd_npy_steps.specs.ViewSelectAndReshapeSteps.{AskedNpyStep, asked_npy_step, is_viewed, are_viewed}
 use Rattle.nd_npy_steps.specs.StepResults.{npy_step_result}
-use Rattle.nd_npy_steps.specs.StepListResults.{numbered, steps_result, array_after_steps, rest_of_steps, MayLackToFollow}
+use Rattle.nd_npy_steps.specs.StepListResults.{numbered, steps_result, array_after_steps, rest_of_steps, MayLackToFollow, GivesArrayAfterSome, GivesArrayAfterStep}
 
 module _ {X : Type 0} where
   -- steps, and then others
@@ -55,20 +57,29 @@ module _ {X : Type 0} (steps : List NpyStep) (k : ℕ) (start now : Meaning X) (
       ∙ ap (λ n. steps_result (n + 1) (asked_npy_step (get_or steps k d) ∷ others) now) (long inside)
       ∙ ap (λ s. and_then (numbered (k + 1) s) (steps_result (k + 1 + 1) others)) e
 
-  pub taken_more : (d : NpyStep) (next : Meaning X) → k < length steps → npy_step_result (asked_npy_step (get_or steps k d)) now ≡ Ok next → array_after_steps (map asked_npy_step (take (k + 1) steps)) start ≡ Ok next
+  taken_more : (d : NpyStep) (next : Meaning X) → k < length steps → npy_step_result (asked_npy_step (get_or steps k d)) now ≡ Ok next → array_after_steps (map asked_npy_step (take (k + 1) steps)) start ≡ Ok next
   taken_more d next inside e = ap (λ xs. array_after_steps xs start) (front d inside) ∙ one d (Ok next) [] inside e
 
   stops_by : (d : NpyStep) (r : Result (Meaning X) StepCause) (refusal : Refusal) → k < length steps → npy_step_result (asked_npy_step (get_or steps k d)) now ≡ r → numbered (k + 1) r ≡ Err refusal → array_after_steps (map asked_npy_step steps) start ≡ Err refusal
   stops_by d (Ok x) refusal inside e is = absurd cc
   stops_by d (Err cause) refusal inside e is = ap (λ xs. array_after_steps xs start) (split d inside) ∙ one d (Err cause) (map asked_npy_step (drop (k + 1) steps)) inside e ∙ is
 
-  pub taken_stops : (d : NpyStep) (refusal : Refusal) → k < length steps → numbered (k + 1) (npy_step_result (asked_npy_step (get_or steps k d)) now) ≡ Err refusal → array_after_steps (map asked_npy_step steps) start ≡ Err refusal
+  taken_stops : (d : NpyStep) (refusal : Refusal) → k < length steps → numbered (k + 1) (npy_step_result (asked_npy_step (get_or steps k d)) now) ≡ Err refusal → array_after_steps (map asked_npy_step steps) start ≡ Err refusal
   taken_stops d refusal inside is = stops_by d (npy_step_result (asked_npy_step (get_or steps k d)) now) refusal inside refl is
 
-  pub taken_lacks : (d : NpyStep) (made : Meaning X) → k < length steps → npy_step_result (asked_npy_step (get_or steps k d)) now ≡ Ok made → 0 < size_of made.shape → are_viewed (map asked_npy_step steps) ≡ false → MayLackToFollow (map asked_npy_step steps) start
+  taken_lacks : (d : NpyStep) (made : Meaning X) → k < length steps → npy_step_result (asked_npy_step (get_or steps k d)) now ≡ Ok made → 0 < size_of made.shape → are_viewed (map asked_npy_step steps) ≡ false → MayLackToFollow (map asked_npy_step steps) start
   taken_lacks d made inside e some copies =
       let parts : map asked_npy_step steps ≡ map asked_npy_step (take (k + 1) steps) ++ map asked_npy_step (drop (k + 1) steps) = ap (map asked_npy_step) (sym (take-append-drop (k + 1) steps)) ∙ map-append asked_npy_step (take (k + 1) steps) (drop (k + 1) steps) in
       (map asked_npy_step (take (k + 1) steps), map asked_npy_step (drop (k + 1) steps), made, parts, taken_more d made inside e, some, inr copies)
+
+  -- the step at hand fails
+  pub taken_fails : (d : NpyStep) (count : ℕ) (error : NpyStepsError) → d ≡ get_or steps k d → k < length steps → are_viewed (map asked_npy_step steps) ≡ false
+      → GivesArrayAfterStep {X = Meaning X} (λ m. m) (k + 1) (asked_npy_step d) now (Err error) → GivesArrayAfterSome {X = Meaning X} (λ m. m) count (map asked_npy_step steps) start (Err error)
+  taken_fails d count (Refused refusal) is inside copies h = taken_stops d refusal inside (ap (λ step. numbered (k + 1) (npy_step_result (asked_npy_step step) now)) (sym is) ∙ h)
+  taken_fails d count Memory is inside copies h = taken_lacks d h.0 inside (ap (λ step. npy_step_result (asked_npy_step step) now) (sym is) ∙ h.1) h.2 copies
+
+  pub taken_next : (d : NpyStep) (next : Meaning X) → d ≡ get_or steps k d → k < length steps → npy_step_result (asked_npy_step d) now ≡ Ok next → array_after_steps (map asked_npy_step (take (k + 1) steps)) start ≡ Ok next
+  taken_next d next is inside e = taken_more d next inside (ap (λ step. npy_step_result (asked_npy_step step) now) (sym is) ∙ e)
 
   pub taken_all : k ≤ length steps → array_after_steps (take k (map asked_npy_step steps)) start ≡ Ok now
   taken_all few = ap (λ xs. array_after_steps xs start) (take-map asked_npy_step k steps) ∙ so_far

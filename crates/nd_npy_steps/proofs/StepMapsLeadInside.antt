@@ -1,5 +1,5 @@
 -- The maps of steps lead inside, and the map of a list of steps is the composition of theirs.
-use Rattle.std.proofs.Common.{◌≡◌, ◌∙◌, ℕ, zero, suc, ◌+◌, ◌<◌, ◌==◌, Bool, true, false, List, [], ◌∷◌, length, set, Option, Some, None, Ok, refl, subst, arith}
+use Rattle.std.proofs.Common.{◌≡◌, ◌∙◌, ℕ, zero, suc, ◌+◌, ◌<◌, ◌==◌, Bool, true, false, List, [], ◌∷◌, length, get_or, set, Option, Some, None, Ok, refl, subst, arith}
 use Rattle.std.specs.Prelude.{nat_lt, slice_index}
 use Rattle.std.specs.List.{list_all}
 use Rattle.std.specs.Option.{option_map}
@@ -38,10 +38,10 @@ no_cause t (Some cause) f e = absurd cc
 
 -- ---- Chosen coordinates
 
-listed_below : (n : ℕ) (xs : List ℕ) (k : ℕ) → list_all (λ x. nat_lt x n) xs ≡ true → k < length xs → slice_index xs k < n
-listed_below n [] k all lt = absurd (omega arith)
-listed_below n (x ∷ xs) zero all lt = ltb-true x n (and_parts (nat_lt x n) (list_all (λ x. nat_lt x n) xs) all).0
-listed_below n (x ∷ xs) (suc k) all lt = listed_below n xs k (and_parts (nat_lt x n) (list_all (λ x. nat_lt x n) xs) all).1 (omega (arith, lt))
+pub listed_below : (n : ℕ) (xs : List ℕ) (k d : ℕ) → list_all (λ x. nat_lt x n) xs ≡ true → k < length xs → get_or xs k d < n
+listed_below n [] k d all lt = absurd (omega arith)
+listed_below n (x ∷ xs) zero d all lt = ltb-true x n (and_parts (nat_lt x n) (list_all (λ x. nat_lt x n) xs) all).0
+listed_below n (x ∷ xs) (suc k) d all lt = listed_below n xs k d (and_parts (nat_lt x n) (list_all (λ x. nat_lt x n) xs) all).1 (omega (arith, lt))
 
 chosen_inside : (ns : List ℕ) (axis : ℕ) (indexes : List ℕ) → axis < length ns → list_all (λ k. nat_lt k (slice_index ns axis)) indexes ≡ true → LeadsInside (selected_shape ns axis indexes) (selected_index axis indexes) ns
 chosen_inside [] axis indexes on all i h = absurd (omega (arith, on))
@@ -52,7 +52,7 @@ chosen_inside (n ∷ ns) axis indexes on all [] h = absurd (no_index axis h)
     no_index (suc a) e = absurd cc
 chosen_inside (n ∷ ns) zero indexes on all (x ∷ i) h =
     let p = and_parts (nat_lt x (length indexes)) (in_box ns i) h in
-    and_from (nat_lt (slice_index indexes x) n) (in_box ns i) (lt-ltb (slice_index indexes x) n (listed_below n indexes x all (ltb-true x (length indexes) p.0))) p.1
+    and_from (nat_lt (slice_index indexes x) n) (in_box ns i) (lt-ltb (slice_index indexes x) n (listed_below n indexes x 0 all (ltb-true x (length indexes) p.0))) p.1
 chosen_inside (n ∷ ns) (suc axis) indexes on all (x ∷ i) h =
     let p = and_parts (nat_lt x n) (in_box (selected_shape ns axis indexes) i) h in
     and_from (nat_lt x n) (in_box ns (selected_index axis indexes i)) p.0 (chosen_inside ns axis indexes (omega (arith, on)) all i p.1)

@@ -206,7 +206,7 @@ fn step_taken<A: Clone + Drop>(
 ///
 /// Fails with `Refused`, which tells the first step that is refused and why, or with `Memory` if memory for a copy is
 /// refused.
-#[tactic(auto, using(crate::proofs::StepListsJoined::taken_more, crate::proofs::StepListsJoined::taken_stops, crate::proofs::StepListsJoined::taken_lacks, crate::proofs::StepListsJoined::taken_all))]
+#[tactic(auto, using(crate::proofs::StepListsJoined::taken_all))]
 pub fn take_steps<A: Clone + Drop>(
     alloc: Global,
     array: Array<A, IxDyn>,

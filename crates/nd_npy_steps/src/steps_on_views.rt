@@ -17,7 +17,6 @@ use nd_steps::checked_view_calls::advance;
 use std::alloc::Global;
 
 /// Takes a step on the view, which must be a step that leads to a view, or returns the cause for which it is refused.
-#[tactic(auto, using(crate::proofs::StepsFollowedOnView::viewed_ok, crate::proofs::StepsFollowedOnView::viewed_err))]
 fn advance_view<A>(view: &mut ArrayView<'_, A, IxDyn>, step: &NpyStep) -> Option<StepCause>
     requires { IsTrue (is_viewed (asked_npy_step step.now)) }
     ensures { MovesByStep (asked_npy_step step.now) (meaning_of view.old) (meaning_of view.new) result }
@@ -37,7 +36,6 @@ fn advance_view<A>(view: &mut ArrayView<'_, A, IxDyn>, step: &NpyStep) -> Option
 /// # Errors
 ///
 /// Fails with the number of the first step that is refused, counted from 1 among all steps, and why.
-#[tactic(auto, using(crate::proofs::StepsFollowedOnView::follow_starts, crate::proofs::StepsFollowedOnView::views_start, crate::proofs::StepsFollowedOnView::view_here, crate::proofs::StepsFollowedOnView::views_more, crate::proofs::StepsFollowedOnView::follow_more, crate::proofs::StepsFollowedOnView::follow_stops, crate::proofs::StepsFollowedOnView::follow_ends))]
 pub fn follow_steps<A>(
     view: &mut ArrayView<'_, A, IxDyn>,
     steps: &[NpyStep],

@@ -7,6 +7,7 @@ ghost use Rattle.nd_array_core.specs.ArrayMeaning.{shape_of, element_at};
 ghost use Rattle.nd_array_core.specs.base.NewArrays.{ClonesAreEqual};
 ghost use Rattle.nd_numeric.specs.SumsProductsAndMeans.{AreLaneFolds, AreFoldsBelow, CombinesWithPart};
 
+use nd_array_core::arithmetic::combine_with;
 use nd_array_core::laws::{broadcast_to_itself, elements_by_rank, shape_is_checked};
 use nd_array_core::{Array, ArrayBase, Data};
 use nd_numbers::Operation;
@@ -65,17 +66,14 @@ fn starts<B: Clone + Drop, A, S: Data<Elem = A>, D: RemoveAxis>(
 fn take_part<O: Operation<B, A>, B: Drop, A, S: Data<Elem = A>, E: Dimension>(
     totals: &mut Array<B, E>,
     part: &ArrayBase<S, E>,
-    operation: &O,
+    operation: O,
 )
     requires { shape_of totals.old ≡ shape_of part.now }
     ensures shape { shape_of totals.new ≡ shape_of totals.old }
-    ensures taken { CombinesWithPart (O.gives operation.now) totals.old part.now totals.new }
+    ensures taken { CombinesWithPart (O.gives operation) totals.old part.now totals.new }
 {
     broadcast_to_itself(part);
-    totals.zip_mut_with(
-        part,
-        |total: &mut B, x: &A| *total = operation.apply(total, x),
-    );
+    combine_with(totals, part, operation);
 }
 
 /// Applies `operation` to the total of each lane of an axis and the lane's element at `coordinate`, and writes the result
@@ -85,13 +83,13 @@ fn take_coordinate<O: Operation<B, A>, B: Drop, A, S: Data<Elem = A>, D: RemoveA
     array: &ArrayBase<S, D>,
     axis: Axis,
     coordinate: usize,
-    operation: &O,
+    operation: O,
 )
     requires axis { axis.0 < length (shape_of array.now) }
     requires within { coordinate < slice_index (shape_of array.now) axis.0 }
     requires shape { shape_of totals.old ≡ indexed_shape (shape_of array.now) axis.0 }
     ensures shape { shape_of totals.new ≡ shape_of totals.old }
-    ensures folded { (first : B) → AreFoldsBelow (O.gives operation.now) first array.now axis.0 coordinate (element_at totals.old) → AreFoldsBelow (O.gives operation.now) first array.now axis.0 (coordinate + 1) (element_at totals.new) }
+    ensures folded { (first : B) → AreFoldsBelow (O.gives operation) first array.now axis.0 coordinate (element_at totals.old) → AreFoldsBelow (O.gives operation) first array.now axis.0 (coordinate + 1) (element_at totals.new) }
 {
     let part = array.index_axis(axis, coordinate);
     elements_by_rank(&part);
@@ -101,7 +99,7 @@ fn take_coordinate<O: Operation<B, A>, B: Drop, A, S: Data<Elem = A>, D: RemoveA
 /// Returns the array that has, for each lane of an axis, the lane's elements folded by `operation`. The axis must have a
 /// length of at least 1.
 pub(crate) fn fold_by_coordinates<
-    O: Operation<B, A>,
+    O: Operation<B, A> + Copy,
     B: Clone + Drop,
     A,
     S: Data<Elem = A>,
@@ -123,7 +121,7 @@ pub(crate) fn fold_by_coordinates<
     let mut totals = starts(alloc, array, axis, init)?;
     let count = array.len_of(axis);
     for coordinate in 0..count {
-        take_coordinate(&mut totals, array, axis, coordinate, &operation);
+        take_coordinate(&mut totals, array, axis, coordinate, operation);
     }
     Ok(totals)
 }

@@ -1,6 +1,6 @@
 //! Sums, products, means, and least and greatest elements of arrays of numbers, and arithmetic on arrays, proved from
 //! the public contracts of nd_array_core and nd_iter alone.
-#![tactic(auto, using(nd_array_core::proofs::AxesOfDimensionTypes::known_axes))]
+#![tactic(auto)]
 
 mod arithmetic;
 mod arithmetic_with_a_number;

@@ -12,6 +12,7 @@ use nd_shape_and_slice::{Ix1, Ix2, NoMemory};
 use std::alloc::Global;
 
 /// Returns the product of the element of `one` at `row` and the element of `other` at `column`.
+#[tactic(auto, using(nd_array_core::proofs::AxesOfDimensionTypes::known_axes))]
 fn product_at<A: Arithmetic, S: Data<Elem = A>, Z: Data<Elem = A>>(
     one: &ArrayBase<S, Ix1>,
     other: &ArrayBase<Z, Ix1>,

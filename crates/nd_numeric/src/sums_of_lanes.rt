@@ -8,13 +8,20 @@ ghost use Rattle.nd_array_core.specs.base.NewArrays.{ClonesAreEqual};
 ghost use Rattle.nd_numeric.specs.SumsProductsAndMeans.{AreLaneFolds, HasMeans, IfMade};
 
 use crate::lanes_folded_together::{fold_by_coordinates, lie_across};
+use nd_array_core::arithmetic::combine_with_scalar;
 use nd_array_core::{Array, ArrayBase, Data};
-use nd_numbers::{Arithmetic, Operation, Plus, Times};
+use nd_numbers::{Arithmetic, Operation, Over, Plus, Times};
 use nd_shape_and_slice::{Axis, NoMemory, RemoveAxis};
 use std::alloc::Global;
 
 /// Returns the array that has, for each lane of an axis, the lane's elements folded by `operation`.
-pub(crate) fn fold_lanes<O: Operation<B, A>, B: Clone + Drop, A, S: Data<Elem = A>, D: RemoveAxis>(
+pub(crate) fn fold_lanes<
+    O: Operation<B, A> + Copy,
+    B: Clone + Drop,
+    A,
+    S: Data<Elem = A>,
+    D: RemoveAxis,
+>(
     alloc: Global,
     array: &ArrayBase<S, D>,
     axis: Axis,
@@ -80,7 +87,7 @@ fn means_of<A: Arithmetic, S: Data<Elem = A>, D: RemoveAxis>(
 {
     let mut means = sum_axis(alloc, array, axis)?;
     let length = A::of_count(count);
-    means.map_inplace(|x| *x = x.over(length));
+    combine_with_scalar(&mut means, length, Over);
     Ok(means)
 }
 

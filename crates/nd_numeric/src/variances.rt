@@ -13,6 +13,7 @@ ghost use Rattle.nd_numeric.specs.Variances.{variance_in, variance_of_all, with_
 use crate::float_square_roots::Real;
 use crate::folds_in_order::fold_in_order;
 use crate::sums_of_all_elements::sum;
+use nd_array_core::arithmetic::combine_with_scalar;
 use nd_array_core::laws::lanes_are_folded;
 use nd_array_core::{Array, ArrayBase, Data, LaneView};
 use nd_numbers::{Arithmetic, Operation};
@@ -127,6 +128,19 @@ pub fn var_axis<A: Real, S: Data<Elem = A>, D: RemoveAxis>(
     Some(variances_of(alloc, array, axis, ddof))
 }
 
+/// The operation that takes the square root of the left number. There is nothing on the right.
+#[derive(Drop)]
+struct Root;
+
+impl<A: Real> Operation<A, ()> for Root {
+    ghost gives = { λ operation x nothing. A.root x };
+
+    #[inline]
+    fn apply(&self, x: &A, _: &()) -> A {
+        x.root()
+    }
+}
+
 /// Returns the standard deviation of each lane of an axis, which must be longer than `ddof`.
 fn deviations_of<A: Real, S: Data<Elem = A>, D: RemoveAxis>(
     alloc: Global,
@@ -141,7 +155,7 @@ fn deviations_of<A: Real, S: Data<Elem = A>, D: RemoveAxis>(
     ensures refused { OnErr result (0 < size_of (indexed_shape (shape_of array.now) axis.0)) }
 {
     let mut deviations = variances_of(alloc, array, axis, ddof)?;
-    deviations.map_inplace(|x| *x = x.root());
+    combine_with_scalar(&mut deviations, (), Root);
     Ok(deviations)
 }
 

@@ -1,11 +1,13 @@
-//! A caller that reads and writes, and tests by the public functions: of arrays in numpy's files, of steps on them, and of the
-//! program. Each module is named after what it tests, or after what several of the test modules use.
+//! Callers that read and write, and tests by the public functions: of the heads of numpy's files, of arrays in such files, of
+//! steps on them, and of the program. Each module is named after what it tests, or after what several of the test modules use.
 #![tactic(auto)]
 
 #[cfg(test)]
 mod errors;
 #[cfg(test)]
 mod floats;
+#[cfg(test)]
+pub mod header;
 #[cfg(test)]
 mod integers;
 #[cfg(test)]

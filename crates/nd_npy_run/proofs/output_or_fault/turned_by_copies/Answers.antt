@@ -3,8 +3,15 @@ use Rattle.std.proofs.lemmas.List.{length-map}
 use Rattle.nd_array_core.specs.ArrayMeaning.{meaning_of}
 use Rattle.nd_npy_steps.specs.ViewSelectAndReshapeSteps.{asked_npy_step}
 use Rattle.nd_steps.proofs.StepEquations.{same_meaning}
-use Rattle.nd_npy_run.proofs.FilesOfItemBytes.{turned_comes, refused_then, some_items}
+use Rattle.nd_npy_run.proofs.FilesOfItemBytes.{array_fails, turned_comes, refused_taking, refused_then, some_items}
 use Rattle.nd_npy_run.proofs.output_or_fault.turned_by_copies.Goals as goal
+
+pub returns-in-Err : goal.returns-in-Err
+returns-in-Err g c = array_fails c.args.wanted (map asked_npy_step c.args.steps.now) c.args.bytes.now c.args.item_type c.in-Err.fault c.in-Err.ensures
+
+pub returns-in-Err-Refused : goal.returns-in-Err-Refused
+returns-in-Err-Refused g c =
+    rw c.in-Err-Refused.field-0-is (refused_taking (map asked_npy_step c.args.steps.now) c.args.bytes.now c.args.item_type (meaning_of c.in-Ok.array) c.in-Ok.ensures c.copying_steps-done.result c.in-Err-Refused.field-0 c.in-Err-Refused.refusal c.in-Err-Refused.field-0-is c.in-Err-Refused.ensures)
 
 pub returns-in-Err-Memory : goal.returns-in-Err-Memory
 returns-in-Err-Memory g c = some_items _ _ _ c.requires

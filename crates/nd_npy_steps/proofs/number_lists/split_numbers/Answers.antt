@@ -5,6 +5,7 @@ use Rattle.nd_text.specs.LinesAndWords.{words_of}
 use Rattle.nd_read.specs.declared.reader.read_errors.LineFault.TheVariants.{Bad}
 use Rattle.nd_read.specs.LineReaders.{first_as, many_at}
 use Rattle.nd_read.proofs.ItemReadingLoop.{goes_on, stops, is_done, short, item_words}
+use Rattle.nd_npy_steps.proofs.NumberLists.{nothing_before}
 use Rattle.nd_npy_steps.proofs.number_lists.split_numbers.Goals as goal
 
 pub returns-then-not-has_words : goal.returns-then-not-has_words
@@ -12,6 +13,9 @@ returns-then-not-has_words c =
     let words = words_of c.args.line.now in
     let few : length words < c.args.count = elim (cases_lt (length words) c.args.count) [ inl lt ↦ lt | inr le ↦ (let clash : false ≡ true = c.if-not-has_words.ensures.1 le in absurd cc) ] in
     short (first_as nat_of) (item_words nat_of) c.args.count words few
+
+pub loop-init : goal.loop-init
+loop-init c = nothing_before c.in_ok-numbers.numbers.items c.args.count (words_of c.args.line.now) c.in_ok-numbers.ensures.items
 
 pub returns-in-None : goal.returns-in-None
 returns-in-None c =

@@ -9,7 +9,7 @@ use Rattle.nd_numeric.proofs.lanes_folded_together.take_coordinate.Goals as goal
 pub returns-clause-folded : goal.returns-clause-folded
 returns-clause-folded g c first so =
     let a = c.args.array.now in
-    let gives = g.O.Operation.gives c.args.operation.now in
+    let gives = g.O.Operation.gives c.args.operation in
     let shows = c.index_axis-part.ensures.part in
     let law = c.elements_by_rank.ensures in
     let new = c.take_part.new.totals in

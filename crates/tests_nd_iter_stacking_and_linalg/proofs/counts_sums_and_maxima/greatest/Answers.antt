@@ -1,5 +1,0 @@
-use Rattle.std.proofs.Common.{rules}
-use Rattle.tests_nd_iter_stacking_and_linalg.proofs.counts_sums_and_maxima.greatest.Goals as goal
-
-pub returns-clause-there : goal.returns-clause-there
-returns-clause-there g c = search rules

@@ -1,0 +1,134 @@
+//! The indexes of the least and the greatest element, and the least and the greatest element of each lane. Each call
+//! gets its storage here.
+
+use crate::numeric::tables_in_three_layouts::{STRIDES, float_list};
+use crate::numeric::totals::totals;
+use nd_array_core::{Array1, ArrayView2};
+use nd_numeric::{argmax, argmin, max_axis, min_axis};
+use nd_shape_and_slice::{Axis, NoMemory};
+use nd_test_arrays::{table, table_by};
+use std::alloc::Global;
+
+/// Lists, the position of the least number and that of the greatest. Of equal numbers it is the first, -0 equals 0, and a
+/// NaN comes after all numbers.
+const FLOATS: [(&[f64], Option<usize>, Option<usize>); 7] = [
+    (&[], None, None),
+    (&[0.5, f64::NAN, -1.5, -1.5], Some(2), Some(1)),
+    (&[2.0, 7.0, 7.0, 2.0], Some(0), Some(1)),
+    (&[0.0, -0.0], Some(0), Some(0)),
+    (&[-0.0, 0.0], Some(0), Some(0)),
+    (
+        &[f64::NAN, f64::INFINITY, f64::NEG_INFINITY],
+        Some(2),
+        Some(0),
+    ),
+    (&[f64::NAN, f64::NAN], Some(0), Some(0)),
+];
+
+/// Returns whether a list was made, and has these elements.
+fn are_listed(made: &Result<Array1<Option<u64>>, NoMemory>, wanted: &[Option<u64>]) -> bool {
+    match made {
+        Ok(list) => list.as_slice() == Some(wanted),
+        Err(_) => false,
+    }
+}
+
+/// The least elements of the columns and the greatest of the rows of a table, and the indexes of the least and of the
+/// greatest of all.
+type Ends = (
+    &'static [Option<u64>],
+    &'static [Option<u64>],
+    Option<(usize, usize)>,
+    Option<(usize, usize)>,
+);
+
+/// Returns whether the least and greatest elements of a table, and their indexes, are these.
+fn ends_are_right(alloc: Global, table: &ArrayView2<'_, u64>, wanted: &Ends) -> bool {
+    are_listed(&min_axis(alloc, table, Axis(0)), wanted.0)
+        && are_listed(&max_axis(alloc, table, Axis(1)), wanted.1)
+        && argmin(table) == wanted.2
+        && argmax(table) == wanted.3
+}
+
+// What the table 5 1 9 / 9 3 1 is stored as, in each layout.
+const STORED: [&[u64]; 3] = [
+    &[5, 1, 9, 9, 3, 1],
+    &[5, 9, 1, 3, 9, 1],
+    &[9, 0, 1, 0, 5, 0, 1, 0, 3, 0, 9],
+];
+
+const ENDS: Ends = (
+    &[Some(5), Some(1), Some(1)],
+    &[Some(9), Some(9)],
+    Some((0, 1)),
+    Some((0, 2)),
+);
+
+const OF_NOTHING: Ends = (&[None, None], &[], None, None);
+
+fn ends_in_each_layout(alloc: Global) -> bool {
+    for k in 0..3usize {
+        let right = match table_by(alloc, (2, 3), STRIDES[k], STORED[k]) {
+            Some(table) => ends_are_right(alloc, &table.view(), &ENDS),
+            None => false,
+        };
+        if !right {
+            return false;
+        }
+    }
+    match table(alloc, (0, 2), &[]) {
+        Some(none) => ends_are_right(alloc, &none.view(), &OF_NOTHING),
+        None => false,
+    }
+}
+
+/// Returns whether the least and the greatest number of a list, and their positions, are those at these positions.
+fn list_ends_are(
+    alloc: Global,
+    items: &[f64],
+    least: Option<usize>,
+    greatest: Option<usize>,
+) -> bool {
+    let Some(list) = float_list(alloc, items) else {
+        return false;
+    };
+    let (_sum, _product, _mean, lowest, highest) = totals(&list);
+    argmin(&list) == least
+        && argmax(&list) == greatest
+        && is_at(items, least, lowest)
+        && is_at(items, greatest, highest)
+}
+
+/// Returns whether both numbers are NaN, or they are equal and have the same sign.
+fn is_same(x: f64, y: f64) -> bool {
+    if x.is_nan() || y.is_nan() {
+        return x.is_nan() && y.is_nan();
+    }
+    x == y && 1.0 / x == 1.0 / y
+}
+
+/// Returns whether a number is the one at a position, or there is neither.
+fn is_at(items: &[f64], position: Option<usize>, number: Option<f64>) -> bool {
+    match (position, number) {
+        (Some(k), Some(x)) => match items.get(k) {
+            Some(y) => is_same(x, *y),
+            None => false,
+        },
+        (None, None) => true,
+        _ => false,
+    }
+}
+
+fn ends_of_floats(alloc: Global) -> bool {
+    for (items, least, greatest) in &FLOATS {
+        if !list_ends_are(alloc, *items, *least, *greatest) {
+            return false;
+        }
+    }
+    true
+}
+
+#[test]
+fn ends(rt: HostRuntime) {
+    assert!(rt; ends_in_each_layout(rt.alloc()) && ends_of_floats(rt.alloc()));
+}

@@ -1,0 +1,229 @@
+//! What callers of `nd_numeric` make of small tables and lists of floats. Each call finds storage here. numpy 1.24 computed
+//! the numbers of the grid and of the points.
+
+use crate::numeric::tables_in_three_layouts::{float_list, floats, floats_by, has, lists_floats};
+use nd_array_core::{Array1, Array2, ArrayBase, ArrayView2, Data, DataMut};
+use nd_shape_and_slice::{Dimension, Ix2};
+use std::alloc::Global;
+use uses_nd_iter_stacking_and_numeric::distances_and_window_means::{
+    running_mean, squared_distance,
+};
+use uses_nd_iter_stacking_and_numeric::heat_diffusion::heat_step;
+use uses_nd_iter_stacking_and_numeric::nearest_centres::nearest_centres;
+use uses_nd_iter_stacking_and_numeric::standardised_columns::{centre_columns, normalise_columns};
+
+/// The shape and strides of a table, what it is stored as, its elements once its columns are shares of 1, and those once
+/// they then have a mean of 0.
+type Columns = (
+    (usize, usize),
+    [isize; 2],
+    &'static [f64],
+    &'static [f64],
+    &'static [f64],
+);
+
+const SHARES: [f64; 4] = [0.25, 0.25, 0.75, 0.75];
+
+const MOVED: [f64; 4] = [-0.25, -0.25, 0.25, 0.25];
+
+// The table 1 2 / 3 6 in row-major order, in column-major order and with steps, and a table without rows.
+const COLUMNS: [Columns; 4] = [
+    ((2, 2), [2, 1], &[1.0, 2.0, 3.0, 6.0], &SHARES, &MOVED),
+    ((2, 2), [1, 2], &[1.0, 3.0, 2.0, 6.0], &SHARES, &MOVED),
+    (
+        (2, 2),
+        [4, -2],
+        &[2.0, 9.0, 1.0, 9.0, 6.0, 9.0, 3.0],
+        &SHARES,
+        &MOVED,
+    ),
+    ((0, 2), [0, 0], &[], &[], &[]),
+];
+
+/// Returns whether a table comes to have these elements once its columns are shares of 1, and then those once they have a
+/// mean of 0.
+fn columns_become<S: DataMut<Elem = f64>>(
+    alloc: Global,
+    table: &mut ArrayBase<S, Ix2>,
+    shares: &[f64],
+    moved: &[f64],
+) -> bool {
+    if normalise_columns(alloc, table).is_err() || !has(table, shares) {
+        return false;
+    }
+    centre_columns(alloc, table).is_ok() && has(table, moved)
+}
+
+/// Returns whether the columns of a table come to be shares of 1, and then to have a mean of 0.
+fn columns_are_right(alloc: Global, row: &Columns) -> bool {
+    match floats_by(alloc, row.0, row.1, row.2) {
+        Some(made) => {
+            let mut table = made;
+            columns_become(alloc, &mut table, row.3, row.4)
+        }
+        None => false,
+    }
+}
+
+fn columns(alloc: Global) -> bool {
+    for row in &COLUMNS {
+        if !columns_are_right(alloc, row) {
+            return false;
+        }
+    }
+    true
+}
+
+/// Returns whether two arrays of one shape are so far apart.
+fn are_apart<S: Data<Elem = f64>, Z: Data<Elem = f64>, D: Dimension>(
+    one: &ArrayBase<S, D>,
+    other: &ArrayBase<Z, D>,
+    wanted: f64,
+) -> bool {
+    one.shape() == other.shape() && squared_distance(one, other) == wanted
+}
+
+/// Returns whether two arrays are so far apart, and the first and itself not at all.
+fn distances_are<S: Data<Elem = f64>, Z: Data<Elem = f64>, D: Dimension>(
+    one: &ArrayBase<S, D>,
+    other: &ArrayBase<Z, D>,
+    wanted: f64,
+) -> bool {
+    are_apart(one, other, wanted) && are_apart(one, one, 0.0)
+}
+
+/// Returns whether a table and the transpose of 0 1 / 4 0 are as far apart as they should be.
+fn distances_from(alloc: Global, one: &Array2<f64>) -> bool {
+    match floats(alloc, (2, 2), &[0.0, 1.0, 4.0, 0.0]) {
+        Some(other) => distances_are(&one.view(), &other.t(), 14.25),
+        None => false,
+    }
+}
+
+fn distances(alloc: Global) -> bool {
+    match floats(alloc, (2, 2), &[1.0, 2.0, 4.0, 0.5]) {
+        Some(one) => distances_from(alloc, &one),
+        None => false,
+    }
+}
+
+/// Widths of windows, and the means of all windows of so many neighbours of 1 2 3 6 0.
+const MEANS: [(usize, &[f64]); 3] = [
+    (1, &[1.0, 2.0, 3.0, 6.0, 0.0]),
+    (2, &[1.5, 2.5, 4.5, 3.0]),
+    (5, &[2.4]),
+];
+
+/// Returns whether the means of all windows of so many neighbours of a list are these.
+fn means_are(alloc: Global, list: &Array1<f64>, width: usize, wanted: &[f64]) -> bool {
+    if width == 0 || width > list.dim() {
+        return false;
+    }
+    match running_mean(alloc, list, width) {
+        Ok(means) => lists_floats(&means, wanted),
+        Err(_) => false,
+    }
+}
+
+fn windows(alloc: Global) -> bool {
+    let Some(list) = float_list(alloc, &[1.0, 2.0, 3.0, 6.0, 0.0]) else {
+        return false;
+    };
+    for (width, wanted) in &MEANS {
+        if !means_are(alloc, &list, *width, *wanted) {
+            return false;
+        }
+    }
+    true
+}
+
+/// A grid of four rows and four columns.
+const GRID: [f64; 16] = [
+    0.0, 0.0, 0.0, 0.0, 0.0, 8.0, 4.0, 0.0, 0.0, 2.0, 6.0, 0.0, 1.0, 0.0, 0.0, 0.0,
+];
+
+/// The grid after a step of heat diffusion with the rate 0.25, and the transpose of what that gives.
+const HEATED: [[f64; 16]; 2] = [
+    [
+        0.0, 0.0, 0.0, 0.0, 0.0, 1.5, 3.5, 0.0, 0.0, 3.5, 1.5, 0.0, 1.0, 0.0, 0.0, 0.0,
+    ],
+    [
+        0.0, 0.0, 0.0, 1.0, 0.0, 1.5, 3.5, 0.0, 0.0, 3.5, 1.5, 0.0, 0.0, 0.0, 0.0, 0.0,
+    ],
+];
+
+/// Returns whether a grid is this one after a step of heat diffusion with the rate 0.25.
+fn becomes(alloc: Global, grid: &ArrayView2<'_, f64>, wanted: &[f64]) -> bool {
+    match heat_step(alloc, grid, 0.25) {
+        Ok(next) => has(&next, wanted),
+        Err(_) => false,
+    }
+}
+
+fn heat(alloc: Global) -> bool {
+    match floats(alloc, (4, 4), &GRID) {
+        Some(grid) => {
+            becomes(alloc, &grid.view(), &HEATED[0]) && becomes(alloc, &grid.t(), &HEATED[1])
+        }
+        None => false,
+    }
+}
+
+/// Points, centres, and the number of the nearest centre of each point; points and centres in a plane, one after another.
+const NEAREST: [(&[f64], &[f64], &[usize]); 3] = [
+    (
+        &[0.0, 0.0, 1.0, 1.0, 5.0, 4.0, 2.5, 2.0, -3.0, 9.0],
+        &[0.0, 1.0, 5.0, 3.0, 0.0, 1.0],
+        &[0, 0, 1, 0, 0],
+    ),
+    (
+        &[0.0, 0.0, 4.0, 0.0, 2.0, 0.0, 9.0, 9.0],
+        &[0.0, 0.0, 4.0, 0.0],
+        &[0, 1, 0, 1],
+    ),
+    (&[], &[1.0, 2.0], &[]),
+];
+
+/// Returns whether there is a centre, points and centres have as many columns, and the nearest centres of the points have
+/// these numbers.
+fn assigned_are(
+    alloc: Global,
+    points: &Array2<f64>,
+    centres: &Array2<f64>,
+    wanted: &[usize],
+) -> bool {
+    if centres.nrows() == 0 || centres.ncols() != points.ncols() {
+        return false;
+    }
+    match nearest_centres(alloc, points, centres) {
+        Ok(numbers) => numbers.as_slice() == wanted,
+        Err(_) => false,
+    }
+}
+
+/// Returns whether the nearest centres of points in a plane have these numbers.
+fn nearest_are(alloc: Global, points: &[f64], centres: &[f64], wanted: &[usize]) -> bool {
+    match floats(alloc, (points.len() / 2, 2), points) {
+        Some(points) => match floats(alloc, (centres.len() / 2, 2), centres) {
+            Some(centres) => assigned_are(alloc, &points, &centres, wanted),
+            None => false,
+        },
+        None => false,
+    }
+}
+
+fn assignments(alloc: Global) -> bool {
+    for (points, centres, wanted) in &NEAREST {
+        if !nearest_are(alloc, *points, *centres, *wanted) {
+            return false;
+        }
+    }
+    true
+}
+
+#[test]
+fn called(rt: HostRuntime) {
+    let alloc = rt.alloc();
+    let tables_are_right = columns(alloc) && distances(alloc) && heat(alloc);
+    assert!(rt; tables_are_right && windows(alloc) && assignments(alloc));
+}

@@ -1,0 +1,187 @@
+//! Operators on tables in row-major order, in column-major order, with steps between the elements, and without rows.
+//! Each call gets its storage here.
+
+use crate::numeric::tables_in_three_layouts::{ELEVEN_ON, STRIDES, float_list, made_shows};
+use nd_array_core::{Array, Array1, Array2, ArrayBase, Data, DataMut};
+use nd_shape_and_slice::{Dimension, NdIndex};
+use nd_test_arrays::{is_table, list, shows, table, table_by};
+use std::alloc::Global;
+
+/// The results of operators by value on 11 to 16 and the row 1 2 3.
+const MADE: [u64; 6] = [162, 112, 48, 152, 92, 18];
+
+/// What operators in place leave of 11 to 16 with the row 1 2 3.
+const LEFT: [u64; 6] = [38, 88, 152, 48, 108, 182];
+
+/// Returns whether a row can be broadcast to a table, and the operators by value on both give these numbers. Like the
+/// other functions here over any storage and number of axes, it would take longer to prove at known types.
+fn gives<S: DataMut<Elem = u64> + Drop, D: Dimension, Z: Data<Elem = u64>, E: Dimension>(
+    table: ArrayBase<S, D>,
+    row: &ArrayBase<Z, E>,
+    shape: [usize; 2],
+    wanted: &[u64],
+) -> bool
+where
+    [usize; 2]: NdIndex<D>,
+{
+    if row.broadcast(table.raw_dim()).is_none() {
+        return false;
+    }
+    let first = (table + row) * row - row;
+    let second = -(((first + 1) * 10 - 4) / 3) + 200;
+    shows(&second, shape, wanted)
+}
+
+/// Returns whether a row can be broadcast to a table, and the operators in place on both leave these numbers.
+fn leaves<S: DataMut<Elem = u64>, D: Dimension, Z: Data<Elem = u64>, E: Dimension>(
+    table: &mut ArrayBase<S, D>,
+    row: &ArrayBase<Z, E>,
+    shape: [usize; 2],
+    wanted: &[u64],
+) -> bool
+where
+    [usize; 2]: NdIndex<D>,
+{
+    if row.broadcast(table.raw_dim()).is_none() {
+        return false;
+    }
+    *table += row;
+    *table *= row;
+    *table -= row;
+    *table += 1;
+    *table *= 10;
+    *table -= 4;
+    *table /= 3;
+    shows(table, shape, wanted)
+}
+
+/// Returns whether the operators by value write these numbers to a table.
+fn gives_in_place(
+    made: Option<Array2<u64>>,
+    row: &Array1<u64>,
+    shape: [usize; 2],
+    wanted: &[u64],
+) -> bool {
+    match made {
+        Some(made) => {
+            let mut table = made;
+            gives(table.view_mut(), row, shape, wanted) && is_table(&table, shape, wanted)
+        }
+        None => false,
+    }
+}
+
+/// Returns whether the operators in place leave these numbers in a table that is made.
+fn leaves_in_place(
+    made: Option<Array2<u64>>,
+    row: &Array1<u64>,
+    shape: [usize; 2],
+    wanted: &[u64],
+) -> bool {
+    match made {
+        Some(made) => {
+            let mut table = made;
+            leaves(&mut table, row, shape, wanted)
+        }
+        None => false,
+    }
+}
+
+fn rows_and_columns(alloc: Global) -> bool {
+    let Some(row) = list(alloc, &[1, 2, 3]) else {
+        return false;
+    };
+    for k in 0..3usize {
+        let one = table_by(alloc, (2, 3), STRIDES[k], ELEVEN_ON[k]);
+        let other = table_by(alloc, (2, 3), STRIDES[k], ELEVEN_ON[k]);
+        if !gives_in_place(one, &row, [2, 3], &MADE)
+            || !leaves_in_place(other, &row, [2, 3], &LEFT)
+        {
+            return false;
+        }
+    }
+    gives_in_place(table(alloc, (0, 3), &[]), &row, [0, 3], &[])
+}
+
+// What lies between the elements of a part with steps stays.
+fn parts_with_steps(alloc: Global) -> bool {
+    let Some(row) = list(alloc, &[1, 2, 3]) else {
+        return false;
+    };
+    match table_by(alloc, (2, 3), [6, -2], ELEVEN_ON[2]) {
+        Some(made) => {
+            let mut part = made;
+            leaves(&mut part, &row, [2, 3], &LEFT)
+                && part.into_raw_vec().as_slice()
+                    == [152, 9, 88, 9, 38, 9, 182, 9, 108, 9, 48].as_slice()
+        }
+        None => false,
+    }
+}
+
+/// Returns whether one array can be broadcast to another one, and the operators by reference on 1 2 3 and the greatest
+/// number, and on 2, give the right numbers.
+fn gives_by_reference<D: Dimension, Z: Data<Elem = u64>, E: Dimension>(
+    one: &Array<u64, D>,
+    other: &ArrayBase<Z, E>,
+) -> bool
+where
+    [usize; 2]: NdIndex<D>,
+{
+    if other.broadcast(one.raw_dim()).is_none() {
+        return false;
+    }
+    made_shows(&(one + other), [2, 2], &[3, 4, 5, 1])
+        && made_shows(&(one - other), [2, 2], &[u64::MAX, 0, 1, u64::MAX - 2])
+        && made_shows(&(one * other), [2, 2], &[2, 4, 6, u64::MAX - 1])
+}
+
+fn by_reference(alloc: Global) -> bool {
+    let Some(one) = table(alloc, (2, 2), &[1, 2, 3, u64::MAX]) else {
+        return false;
+    };
+    match list(alloc, &[2]) {
+        Some(other) => gives_by_reference(&one, &other),
+        None => false,
+    }
+}
+
+// Returns whether a list halved by reference has this second element, and once it is halved, reduced by 0.5 and negated
+// the third element 2, and the second one -0.375 after another halving.
+fn is_halved<D: Dimension, Z: Data<Elem = f64>, E: Dimension>(
+    list: Array<f64, D>,
+    two: &ArrayBase<Z, E>,
+) -> bool
+where
+    usize: NdIndex<D>,
+{
+    if two.broadcast(list.raw_dim()).is_none() {
+        return false;
+    }
+    let half = match &list / two {
+        Ok(quotients) => quotients.get(1).copied(),
+        Err(_) => None,
+    };
+    let mut moved = -(list / two - 0.5);
+    if half != Some(1.25) || moved.get(2).copied() != Some(2.0) {
+        return false;
+    }
+    moved /= two;
+    moved.get(1).copied() == Some(-0.375)
+}
+
+fn floats(alloc: Global) -> bool {
+    let Some(list) = float_list(alloc, &[1.0, 2.5, -3.0]) else {
+        return false;
+    };
+    match float_list(alloc, &[2.0]) {
+        Some(two) => is_halved(list, &two),
+        None => false,
+    }
+}
+
+#[test]
+fn operated(rt: HostRuntime) {
+    assert!(rt; rows_and_columns(rt.alloc()) && parts_with_steps(rt.alloc()));
+    assert!(rt; by_reference(rt.alloc()) && floats(rt.alloc()));
+}

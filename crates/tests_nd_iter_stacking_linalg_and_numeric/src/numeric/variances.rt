@@ -1,0 +1,137 @@
+//! Variances and standard deviations of lists, and of the rows and columns of a table. numpy 1.24 computed the expected
+//! values by `var` and `std`. Each call finds storage here.
+
+use crate::numeric::tables_in_three_layouts::{STRIDES, float_list, floats, floats_by};
+use nd_array_core::ArrayView2;
+use nd_numeric::{std, std_axis, var, var_axis};
+use nd_shape_and_slice::Axis;
+use std::alloc::Global;
+use uses_nd_iter_stacking_and_numeric::standardised_columns::standardise_columns;
+
+/// A list, the delta degrees of freedom, and its variance and standard deviation.
+const LISTS: [(&[f64], usize, Option<(f64, f64)>); 8] = [
+    (&[1.0, 2.0, 3.0, 4.0], 0, Some((1.25, 1.118033988749895))),
+    (
+        &[1.0, 2.0, 3.0, 4.0],
+        1,
+        Some((1.6666666666666667, 1.2909944487358056)),
+    ),
+    (&[1.0, 2.0, 3.0, 4.0], 4, None),
+    (&[5.0], 0, Some((0.0, 0.0))),
+    (&[5.0], 1, None),
+    (&[0.5, -1.5, 4.0], 1, Some((7.75, 2.7838821814150108))),
+    (
+        &[2.0, 4.0, 4.0, 4.0, 5.0, 5.0, 7.0, 9.0],
+        0,
+        Some((4.0, 2.0)),
+    ),
+    (&[], 0, None),
+];
+
+/// What the table 1 2 4 / 3 6 8 is stored as, in each layout.
+const STORED: [&[f64]; 3] = [
+    &[1.0, 2.0, 4.0, 3.0, 6.0, 8.0],
+    &[1.0, 3.0, 2.0, 6.0, 4.0, 8.0],
+    &[4.0, 9.0, 2.0, 9.0, 1.0, 9.0, 8.0, 9.0, 6.0, 9.0, 3.0],
+];
+
+/// The axis, the delta degrees of freedom, and the variances and standard deviations of the lanes of the table.
+type Lanes = (usize, usize, &'static [f64], &'static [f64]);
+
+const LANES: [Lanes; 3] = [
+    (0, 0, &[1.0, 4.0, 4.0], &[1.0, 2.0, 2.0]),
+    (
+        0,
+        1,
+        &[2.0, 8.0, 8.0],
+        &[1.4142135623730951, 2.8284271247461903, 2.8284271247461903],
+    ),
+    (
+        1,
+        0,
+        &[1.5555555555555554, 4.222222222222222],
+        &[1.247219128924647, 2.0548046676563256],
+    ),
+];
+
+/// Returns whether a list has this variance and this standard deviation, or neither.
+fn list_is_right(alloc: Global, items: &[f64], ddof: usize, wanted: Option<(f64, f64)>) -> bool {
+    let Some(list) = float_list(alloc, items) else {
+        return false;
+    };
+    match (var(&list, ddof), std(&list, ddof), wanted) {
+        (Some(variance), Some(root), Some((v, r))) => variance == v && root == r,
+        (None, None, None) => true,
+        _ => false,
+    }
+}
+
+fn lists(alloc: Global) -> bool {
+    for (items, ddof, wanted) in &LISTS {
+        if !list_is_right(alloc, *items, *ddof, *wanted) {
+            return false;
+        }
+    }
+    true
+}
+
+/// Returns whether the lanes of an axis have these variances and standard deviations.
+fn lanes_are_right(alloc: Global, table: &ArrayView2<'_, f64>, wanted: &Lanes) -> bool {
+    if wanted.0 >= 2 {
+        return false;
+    }
+    match (
+        var_axis(alloc, table, Axis(wanted.0), wanted.1),
+        std_axis(alloc, table, Axis(wanted.0), wanted.1),
+    ) {
+        (Some(Ok(found)), Some(Ok(deviations))) => {
+            found.as_slice() == Some(wanted.2) && deviations.as_slice() == Some(wanted.3)
+        }
+        _ => false,
+    }
+}
+
+/// Returns whether all lanes of the table are right, and too short lanes have no variance.
+fn table_is_right(alloc: Global, table: &ArrayView2<'_, f64>) -> bool {
+    for wanted in &LANES {
+        if !lanes_are_right(alloc, table, wanted) {
+            return false;
+        }
+    }
+    let rows = var_axis(alloc, table, Axis(0), 2).is_none();
+    rows && std_axis(alloc, table, Axis(1), 3).is_none()
+}
+
+fn lanes(alloc: Global) -> bool {
+    for k in 0..3usize {
+        let right = match floats_by(alloc, (2, 3), STRIDES[k], STORED[k]) {
+            Some(table) => table_is_right(alloc, &table.view()),
+            None => false,
+        };
+        if !right {
+            return false;
+        }
+    }
+    true
+}
+
+fn standardised(alloc: Global) -> bool {
+    let Some(made) = floats(alloc, (2, 3), &[1.0, 2.0, 4.0, 3.0, 6.0, 4.0]) else {
+        return false;
+    };
+    let mut table = made;
+    if standardise_columns(alloc, &mut table).is_err() {
+        return false;
+    }
+    let same = match table.get([0, 2]) {
+        Some(x) => x.is_nan(),
+        None => false,
+    };
+    same && table.get([0, 0]).copied() == Some(-1.0) && table.get([1, 1]).copied() == Some(1.0)
+}
+
+#[test]
+fn spreads(rt: HostRuntime) {
+    assert!(rt; lists(rt.alloc()) && lanes(rt.alloc()));
+    assert!(rt; standardised(rt.alloc()));
+}
