@@ -109,7 +109,8 @@ impl Layout {
 
 /// What is done with each pair of elements; whether to go on.
 trait Act<A>: Copy {
-    /// How many pairs the library takes before it asks whether to go on, 0 where it doesn't ask.
+    /// How many pairs of a lane with steps the library takes before it asks whether to go on, 0 where it doesn't ask. It takes the
+    /// last ones, fewer than these, one by one.
     const BLOCK: usize = 0;
 
     /// Whether it writes what lies on the right side.
@@ -151,7 +152,7 @@ impl<A: Copy> Act<A> for Assign {
 struct Equal;
 
 impl<A: PartialEq> Act<A> for Equal {
-    const BLOCK: usize = 64;
+    const BLOCK: usize = 16;
 
     #[inline(always)]
     fn at(self, left: &mut A, right: &A) -> bool {

@@ -19,7 +19,7 @@ pub use layout::merge_axes::furthest_axis;
 pub use order::append_order::in_tail_order;
 pub use order::halves_in_row_major_order::MOST_ROWS;
 pub use order::halves_of_two_layouts::{HalvedLayouts, halved_alike};
-pub use order::loop_order_of_two_layouts::{is_worth_turning, turned_alike};
+pub use order::loop_order_of_two_layouts::{columns_as_rows, is_worth_turning, turned_alike};
 pub use reshape::axes_from_fastest::slow_axis_at;
 pub use reshape::standard_layouts_and_runs::{is_run, is_standard};
 pub use reshape::strides_that_serve::reshape_strides;

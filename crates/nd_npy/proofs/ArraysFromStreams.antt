@@ -1,5 +1,5 @@
 -- The array that the bytes of a stream mean, from its front and what is ahead.
-use Rattle.std.proofs.Common.{◌≡◌, ◌∙◌, ◌<◌, ◌≤◌, ◌*◌, inl, inr, ⊎_elim, ℕ, Bool, true, false, List, [], ◌∷◌, ◌++◌, length, drop, slice_get, refl, sym, ap, subst, arith, append-nil}
+use Rattle.std.proofs.Common.{◌≡◌, ◌∙◌, ◌<◌, ◌≤◌, ◌*◌, inl, inr, ⊎_elim, ℕ, Bool, true, false, List, [], ◌++◌, length, drop, slice_get, refl, sym, ap, subst, arith, append-nil}
 use Rattle.std.specs.Prelude.{Option, None, Some, IfSome, Result, Ok, Err}
 use Rattle.std.specs.Io.KnownBytes.{prepend_known, Keeps, IsAtEnd}
 use Rattle.std.proofs.lemmas.List.{length-append, drop-append-le}
@@ -8,7 +8,7 @@ use Rattle.nd_elements.specs.ShapeAndElements.{Meaning, inside}
 use Rattle.nd_npy_text.specs.ItemTypes.{kind_size}
 use Rattle.nd_npy_text.specs.HeaderDescription.{Description}
 use Rattle.nd_npy_text.specs.HeaderLaws.{HeadsNeedNoMore}
-use Rattle.nd_npy_text.specs.HeaderReading.{npy_header_in, opening_in, is_cut_off, HasLengths}
+use Rattle.nd_npy_text.specs.HeaderReading.{npy_header_in, is_cut_off}
 use Rattle.nd_npy.specs.declared.item.NpyItem as npy_item
 use Rattle.nd_npy.specs.declared.errors.ReadNpyError.{ReadNpyError}
 use Rattle.nd_npy.specs.declared.errors.ReadNpyError.TheVariants.{Header, OtherKind, WrongSize, Memory}
@@ -49,12 +49,6 @@ other_ahead_is item d (Some bytes) other = array_of_other_kind item d bytes othe
 
 -- ---- the head
 
--- a head has bytes
-pub head_bytes : (bytes : List ℕ) (x : Description × ℕ) → npy_header_in bytes ≡ Ok x → 0 < length bytes
-unfolding npy_header_in opening_in
-head_bytes [] x e = absurd cc
-head_bytes (b ∷ bytes) x e = omega arith
-
 module _ (stay : HeadsNeedNoMore) (front : List ℕ) where
   head_same : (ys : List ℕ) → (is_cut_off front ≡ true → ys ≡ []) → npy_header_in (front ++ ys) ≡ npy_header_in front
   head_same ys ended = by_test (is_cut_off front) refl
@@ -77,10 +71,6 @@ module _ (stay : HeadsNeedNoMore) (front : List ℕ) where
     pub stream_of_cause : (rest : Option (List ℕ)) → (is_cut_off front ≡ true → IsAtEnd rest) → (e : ReadNpyError) → IsNpyCause e (or_header_error (npy_header_in front)) → IfSome (prepend_known front rest) (λ bytes. IsNpyCause e (npy_in item bytes))
     stream_of_cause None ended e cause = tt
     stream_of_cause (Some ys) ended e cause = npy_of_cause item (front ++ ys) e (subst (λ r. IsNpyCause e (or_header_error r)) (sym (head_same ys ended)) cause)
-
--- bytes that have lengths
-pub lengths_bytes : (bytes : List ℕ) → HasLengths bytes → 0 < length bytes
-lengths_bytes bytes has = head_bytes bytes (has.0, has.1) has.2
 
 -- the error of a file is its cause
 pub file_error : {X : Type 0} (e f : ReadNpyError) → (let r : Result X ReadNpyFromError = Err (File e) in r) ≡ Err (File f) → e ≡ f

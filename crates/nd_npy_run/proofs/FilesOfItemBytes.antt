@@ -1,21 +1,22 @@
 -- Files whose items are read as their bytes.
-use Rattle.std.proofs.Common.{◌≡◌, ◌∙◌, ℕ, ◌<◌, ◌≤◌, ◌==◌, Bool, true, false, cond, List, [], ◌∷◌, length, take, drop, Result, Ok, Err, refl, sym, ap, subst, arith}
+use Rattle.std.proofs.Common.{◌≡◌, ◌∙◌, ℕ, ◌<◌, ◌≤◌, ◌==◌, Bool, true, false, cond, List, length, take, drop, Result, Ok, Err, refl, sym, ap, subst}
 use Rattle.std.proofs.lemmas.Bool.{eqb-true, eq-eqb, eqb-false}
 use Rattle.nd_npy_text.specs.declared.item_type.ItemType.{ItemType}
 use Rattle.nd_npy_text.specs.declared.item_type.Kind.{Kind}
 use Rattle.nd_npy_text.specs.ItemTypes.{kind_size}
 use Rattle.nd_npy_text.specs.HeaderDescription.{Description}
-use Rattle.nd_npy_text.specs.HeaderReading.{npy_header_in, opening_in, HasLengths}
+use Rattle.nd_npy_text.specs.HeaderReading.{npy_header_in}
+use Rattle.nd_npy_text.proofs.MemoryLackAfterHeader.{head_bytes}
 use Rattle.nd_npy.specs.declared.item.NpyItem as npy_item
 use Rattle.nd_npy.specs.declared.errors.ReadNpyError.{ReadNpyError}
 use Rattle.nd_npy.specs.declared.errors.ReadNpyError.TheVariants.{WrongSize}
 use Rattle.nd_npy.specs.FileBytesAndArrays.{data_size, array_of_items, array_after_head, npy_in, file_of, IsNpyCause}
-use Rattle.nd_npy_steps.specs.declared.errors.Refusal.{Refusal}
-use Rattle.nd_npy_steps.specs.declared.errors.NpyStepsError.{NpyStepsError}
-use Rattle.nd_npy_steps.specs.declared.errors.NpyStepsError.TheVariants.{Refused}
-use Rattle.nd_npy_steps.specs.ViewSelectAndReshapeSteps.{AskedNpyStep}
-use Rattle.nd_npy_steps.specs.StepListResults.{array_after_steps, rest_of_steps, GivesArrayAfterSome}
-use Rattle.nd_npy_steps.proofs.StepListsJoined.{after_all}
+use Rattle.nd_npy_run.specs.declared.steps.errors.Refusal.{Refusal}
+use Rattle.nd_npy_run.specs.declared.steps.errors.NpyStepsError.{NpyStepsError}
+use Rattle.nd_npy_run.specs.declared.steps.errors.NpyStepsError.TheVariants.{Refused}
+use Rattle.nd_npy_run.specs.ViewSelectAndReshapeSteps.{AskedNpyStep}
+use Rattle.nd_npy_run.specs.StepListResults.{array_after_steps, rest_of_steps, GivesArrayAfterSome}
+use Rattle.nd_npy_run.proofs.StepListsJoined.{after_all}
 use Rattle.nd_npy_run.specs.declared.output_or_fault.Fault.{Fault}
 use Rattle.nd_npy_run.specs.declared.output_or_fault.Fault.TheVariants as faults
 use Rattle.nd_npy_run.specs.declared.wanted_outputs.Wanted.{Wanted}
@@ -24,16 +25,8 @@ use Rattle.nd_npy_run.specs.OutputAndStatus.{ComesOfArray, ComesOfSteps}
 use Rattle.nd_npy_run.specs.FilesAfterSteps.{wanted_text, Items, IsFile, file_text, HasItems, HasWrongSize, IsRefused, ReadsItems}
 
 -- a head has bytes
-pub some_head : (bytes : List ℕ) (x : Description × ℕ) → npy_header_in bytes ≡ Ok x → 0 < length bytes
-unfolding npy_header_in opening_in
-some_head [] x e = absurd cc
-some_head (b ∷ bytes) x e = omega arith
-
-pub some_lengths : (bytes : List ℕ) → HasLengths bytes → 0 < length bytes
-some_lengths bytes has = some_head bytes (has.0, has.1) has.2
-
 pub some_items : (bytes : List ℕ) (item_type : ItemType) (n : ℕ) → HasItems bytes item_type n → 0 < length bytes
-some_items bytes item_type n has = some_head bytes (has.0, has.1) has.2
+some_items bytes item_type n has = head_bytes bytes (has.0, has.1) has.2
 
 module _ (item : npy_item.Ghosts (List ℕ)) (bytes : List ℕ) (d : Description) (start : ℕ) (head : npy_header_in bytes ≡ Ok (d, start)) (accepts : item.accepts d.item_type.kind ≡ true) where
   -- what a file means, by the number of bytes behind its head
@@ -97,7 +90,7 @@ raw_file item item_type m raw = rw raw refl
 
 module _ (steps : List AskedNpyStep) (bytes : List ℕ) (item_type : ItemType) (m : Items) (is : (d : Description) × IsFile bytes d m × (item_type ≡ d.item_type)) where
   file_bytes : 0 < length bytes
-  file_bytes = some_head bytes (is.0, is.1.data_start) is.1.head
+  file_bytes = head_bytes bytes (is.0, is.1.data_start) is.1.head
 
   pub turned_comes : (wanted : Wanted) (done : ℕ) (a v n : Items) (made : Result (List ℕ) Fault) → done ≤ length steps → array_after_steps (take done steps) m ≡ Ok a → v ≡ a → rest_of_steps done steps v ≡ Ok n → ComesOfArray wanted item_type n made → ComesOfSteps wanted steps bytes made
   turned_comes wanted done a v n made few first same rest comes = by_made made comes

@@ -6,3 +6,11 @@ pub mod ArrayTextByElements
 pub mod FilesOfLaneReductions
 pub mod PrintedTextByItemKind
 pub mod Reducing
+pub mod StepsFollowedOnView
+pub mod StepMapsLeadInside
+pub mod StepListsJoined
+pub mod OutOfMemoryInReshape
+pub mod NumberLists
+pub mod StepLists
+pub mod StepTexts
+pub mod SingleStepResults

@@ -4,10 +4,10 @@ use Rattle.std.specs.Prelude.{IfSome}
 use Rattle.std.specs.Result.{result_map_both}
 use Rattle.nd_text.specs.declared.watched_streams.Watched.{Watched}
 use Rattle.nd_text.specs.WatchedReadersAndWriters.{watched_failed}
-use Rattle.nd_npy_steps.specs.declared.errors.WordsError.{WordsError}
-use Rattle.nd_npy_steps.specs.declared.errors.WordsError.TheVariants as words_errors
-use Rattle.nd_npy_steps.specs.ViewSelectAndReshapeSteps.{AskedNpyStep}
-use Rattle.nd_npy_steps.specs.StepListWords.{AreNpySteps, GivesNpySteps}
+use Rattle.nd_npy_run.specs.declared.steps.errors.WordsError.{WordsError}
+use Rattle.nd_npy_run.specs.declared.steps.errors.WordsError.TheVariants as words_errors
+use Rattle.nd_npy_run.specs.ViewSelectAndReshapeSteps.{AskedNpyStep}
+use Rattle.nd_npy_run.specs.StepListWords.{AreNpySteps, GivesNpySteps}
 use Rattle.nd_npy_run.specs.declared.output_or_fault.Fault.{Fault}
 use Rattle.nd_npy_run.specs.declared.output_or_fault.Fault.TheVariants.{BadStep, BadHead, WrongSize, Refused, NoText, NotReduced, Memory, ReadFailed}
 use Rattle.nd_npy_run.specs.declared.wanted_outputs.Wanted.{Wanted}

@@ -5,7 +5,7 @@ use Rattle.nd_text.specs.KeywordSpelling.{keyword_of}
 use Rattle.nd_npy_text.specs.declared.item_type.Kind.{Kind}
 use Rattle.nd_npy_text.specs.ItemTypes.{kind_code}
 use Rattle.nd_npy_text.specs.ErrorTexts.{header_error_text}
-use Rattle.nd_npy_steps.specs.ErrorTexts.{step_needs_text, step_refusal_text}
+use Rattle.nd_npy_run.specs.StepErrorTexts.{step_needs_text, step_refusal_text}
 use Rattle.nd_npy_run.specs.UsageAndArguments.{reduction_named}
 use Rattle.nd_npy_run.specs.declared.reduction.ReductionError.{ReductionError}
 use Rattle.nd_npy_run.specs.declared.reduction.ReductionError.TheVariants.{NoAxis, NoElements, NoNumbers}

@@ -14,9 +14,9 @@ use Rattle.nd_npy_text.specs.HeaderReading.{npy_header_in}
 use Rattle.nd_npy_text.specs.HeaderWriting.{npy_header_text, padded, roomy_text, tuple_text}
 use Rattle.nd_npy.specs.ItemBytes.{item_at}
 use Rattle.nd_npy.specs.FileBytesAndArrays.{item_number, data_size}
-use Rattle.nd_npy_steps.specs.declared.errors.Refusal.{Refusal}
-use Rattle.nd_npy_steps.specs.ViewSelectAndReshapeSteps.{AskedNpyStep}
-use Rattle.nd_npy_steps.specs.StepListResults.{array_after_steps}
+use Rattle.nd_npy_run.specs.declared.steps.errors.Refusal.{Refusal}
+use Rattle.nd_npy_run.specs.ViewSelectAndReshapeSteps.{AskedNpyStep}
+use Rattle.nd_npy_run.specs.StepListResults.{array_after_steps}
 use Rattle.nd_npy_run.specs.declared.reduction.Reduction.{Reduction}
 use Rattle.nd_npy_run.specs.declared.reduction.ReductionError.{ReductionError}
 use Rattle.nd_npy_run.specs.Reductions.{reduced_file}

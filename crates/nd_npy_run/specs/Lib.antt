@@ -4,3 +4,9 @@ pub mod ItemTexts
 pub mod Reductions
 pub mod FilesAfterSteps
 pub mod UsageAndArguments
+pub mod StepErrorTexts
+pub mod StepListLaws
+pub mod StepListResults
+pub mod StepListWords
+pub mod StepResults
+pub mod ViewSelectAndReshapeSteps

@@ -15,8 +15,8 @@ use Rattle.nd_text.specs.BufferedPrinting.{TakesText}
 use Rattle.nd_npy_text.specs.declared.item_type.ItemType.{ItemType}
 use Rattle.nd_npy_text.specs.declared.item_type.Kind.{Kind}
 use Rattle.nd_npy.specs.declared.item.NpyItem as npy_item
-use Rattle.nd_npy_steps.specs.ViewSelectAndReshapeSteps.{AskedNpyStep}
-use Rattle.nd_npy_steps.specs.StepListWords.{AreNpySteps, IsBadNpyStep, MayLackForSteps}
+use Rattle.nd_npy_run.specs.ViewSelectAndReshapeSteps.{AskedNpyStep}
+use Rattle.nd_npy_run.specs.StepListWords.{AreNpySteps, IsBadNpyStep, MayLackForSteps}
 use Rattle.nd_npy_run.specs.declared.output_or_fault.Fault.{Fault}
 use Rattle.nd_npy_run.specs.declared.reduction.ReductionError.{ReductionError}
 use Rattle.nd_npy_run.specs.declared.wanted_outputs.Wanted.{Wanted}

@@ -4,14 +4,14 @@ ghost use Rattle.std.specs.Prelude.{◌≡◌};
 ghost use Rattle.std.specs.Fmt.{decimal};
 ghost use Rattle.nd_npy_text.specs.ErrorTexts.{header_error_text};
 ghost use Rattle.nd_npy_text.specs.declared.errors.HeaderError.TheVariants.{BadByte, UnknownVersion};
-ghost use Rattle.nd_npy_steps.specs.ErrorTexts.{step_refusal_text};
+ghost use Rattle.nd_npy_run.specs.StepErrorTexts.{step_refusal_text};
 ghost use Rattle.nd_npy_run.specs.ErrorTexts.{bad_step_line, size_line, no_text_line, npy_fault_text, reduction_line, word_needs_text};
 ghost use Rattle.nd_text.specs.BufferedPrinting.{Puts};
 
 use crate::output_or_fault::Fault;
 use crate::reduction::{ReductionError, reduction_named};
+use crate::steps::{Refusal, cause_told, step_needs};
 use itoa::Buffer;
-use nd_npy_steps::{Refusal, cause_told, step_needs};
 use nd_npy_text::{HeaderError, HeaderFlaw, Kind};
 use nd_text::buffered_printing::{put, put_number};
 use nd_text::{Page, Watched};

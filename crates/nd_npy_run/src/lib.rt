@@ -9,7 +9,7 @@ mod output_or_fault;
 mod printed_arrays;
 pub mod program;
 mod reduction;
-mod shape_line;
+pub mod steps;
 pub mod usage_and_argument_errors;
 pub mod wanted_outputs;
 

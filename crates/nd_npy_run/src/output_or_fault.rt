@@ -5,19 +5,19 @@ ghost use Rattle.std.specs.Result.{result_map_both};
 ghost use Rattle.nd_text.specs.LinesAndWords.{words_of};
 ghost use Rattle.nd_text.specs.WatchedReadersAndWriters.{watched_failed, watched_retried};
 ghost use Rattle.nd_array_core.specs.ArrayMeaning.{meaning_of};
-ghost use Rattle.nd_npy_steps.specs.ViewSelectAndReshapeSteps.{asked_npy_step, are_viewed};
+ghost use Rattle.nd_npy_run.specs.ViewSelectAndReshapeSteps.{asked_npy_step, are_viewed};
 ghost use Rattle.nd_npy_run.specs.FilesAfterSteps.{HasItems, ReadsItems};
 ghost use Rattle.nd_npy_run.specs.OutputAndStatus.{bytes_made, ComesOfReader, ComesOfSteps, is_npy_failed_read, AreNoNpySteps, IsInputReadFor};
 
 use crate::reduction::ReductionError;
+use crate::steps::{
+    NpyStep, NpyStepsError, Refusal, WordsError, copying_steps, follow_steps, read_steps,
+    take_steps,
+};
 use crate::wanted_outputs::{Wanted, wanted_bytes};
 use nd_array_core::{ArrayD, ArrayViewD};
 use nd_npy::ReadNpyError;
 use nd_npy::reader::{read_npy, view_npy};
-use nd_npy_steps::{
-    NpyStep, NpyStepsError, Refusal, WordsError, copying_steps, follow_steps, read_steps,
-    take_steps,
-};
 use nd_npy_text::reader::read_header;
 use nd_npy_text::{HeaderError, ItemType, Kind};
 use nd_text::Watched;

@@ -120,7 +120,7 @@ impl fmt::Display for ArgumentsError {
     ghost output = { λ error. Some (npy_arguments_error_text error) };
 
     fn fmt<W: fmt::Write>(&self, f: &mut fmt::Formatter<W>) -> fmt::Result {
-        write!(f, "{}", self.text())
+        f.write_str(self.text())
     }
 }
 

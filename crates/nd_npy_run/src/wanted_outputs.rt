@@ -1,11 +1,11 @@
 //! What the program writes of the array after the steps.
 
-ghost use Rattle.std.specs.Prelude.{◌≡◌, ◌≤◌, false, drop, length, IfOk};
+ghost use Rattle.std.specs.Prelude.{◌≡◌, ◌≤◌, ◌++◌, codes, false, drop, length, IfOk};
 ghost use Rattle.nd_text.specs.LinesAndWords.{words_of};
 ghost use Rattle.nd_array_core.specs.ArrayMeaning.{meaning_of};
 ghost use Rattle.nd_npy_text.specs.HeaderDescription.{described};
 ghost use Rattle.nd_npy_text.specs.ItemTypes.{kind_size};
-ghost use Rattle.nd_npy_text.specs.HeaderWriting.{padded, roomy_text};
+ghost use Rattle.nd_npy_text.specs.HeaderWriting.{padded, roomy_text, tuple_text};
 ghost use Rattle.nd_npy_run.specs.OutputAndStatus.{bytes_made, ComesOfArray};
 ghost use Rattle.nd_npy_run.specs.UsageAndArguments.{asked_of, wanted_by, wanted_named, step_words};
 
@@ -13,11 +13,10 @@ use crate::arrays_reduced_along_axis::reduced_bytes;
 use crate::output_or_fault::Fault;
 use crate::printed_arrays::printed_bytes;
 use crate::reduction::{Reduction, reduction_named};
-use crate::shape_line::shape_bytes;
 use nd_array_core::{ArrayView, Dimension, IxDyn};
 use nd_npy::writer::npy_bytes_as;
 use nd_npy_text::ItemType;
-use nd_npy_text::writer::header_bytes;
+use nd_npy_text::writer::{header_bytes, put_shape};
 use nd_text::lines_and_words::split_word;
 use nd_text::number_reading::split_number;
 use std::alloc::{AllocError, Global};
@@ -126,6 +125,16 @@ fn description_bytes(
     let mut text = Vec::new(alloc);
     text.extend_from_slice(after_front(head.as_slice()))?;
     Ok(text)
+}
+
+/// Returns the line that tells a shape, as numpy writes it.
+fn shape_bytes(alloc: Global, shape: &[usize]) -> Result<Vec<u8>, AllocError>
+    ensures { IfOk result (λ v. v.items ≡ tuple_text shape.now ++ codes "\n") }
+{
+    let mut bytes = Vec::new(alloc);
+    put_shape(&mut bytes, shape)?;
+    bytes.extend_from_slice(b"\n")?;
+    Ok(bytes)
 }
 
 /// Returns what is wanted of an array whose items have the type `item_type`. Fails with `NoText` if that is its text, and

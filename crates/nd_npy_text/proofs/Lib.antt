@@ -3,9 +3,10 @@ mod ItemTypesReadBack
 mod LengthListReading
 mod LengthsReadBack
 mod HeaderIgnoresFollowingBytes
-mod MemoryLackAfterHeader
+pub mod MemoryLackAfterHeader
 mod HeaderReadBack
 mod NonzeroProducts
+mod BytesBehindOthers
 mod DictOfThreeEntries
 mod HeaderTextLength
 pub mod PiecesInTurn

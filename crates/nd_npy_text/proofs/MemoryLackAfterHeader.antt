@@ -1,5 +1,5 @@
 -- Where memory can run out: after a head that means something.
-use Rattle.std.proofs.Common.{◌≡◌, ◌∙◌, ℕ, Bool, true, false, cond, List, [], ◌∷◌, ap}
+use Rattle.std.proofs.Common.{◌≡◌, ◌∙◌, ◌<◌, ℕ, Bool, true, false, cond, List, [], ◌∷◌, ap, arith}
 use Rattle.std.specs.Prelude.{Result, Ok, Err, Option, None, Some, IsTrue, nat_le, length, take}
 use Rattle.nd_npy_text.specs.declared.errors.HeaderError.{HeaderError}
 use Rattle.nd_npy_text.specs.declared.errors.HeaderError.TheVariants.{Memory, TooShort, TooLarge}
@@ -8,7 +8,7 @@ use Rattle.nd_npy_text.specs.declared.header.Version.{Version}
 use Rattle.nd_npy_text.specs.ItemTypes.{kind_size}
 use Rattle.nd_npy_text.specs.HeaderDescription.{Description, fits_memory, is_wide}
 use Rattle.nd_npy_text.specs.HeaderTokens.{HeaderStop, ◌>>=◌, after_text}
-use Rattle.nd_npy_text.specs.HeaderReading.{with_byte_counted, dict_in, first_bytes, npy_header_in, magic, opening_in, or_no_magic, or_unknown, size_in, unless_too_large, version_in, version_numbered, text_in}
+use Rattle.nd_npy_text.specs.HeaderReading.{with_byte_counted, dict_in, first_bytes, npy_header_in, magic, opening_in, or_no_magic, or_unknown, size_in, unless_too_large, version_in, version_numbered, text_in, HasLengths}
 
 -- it isn't told by what this gives
 abbrev NotTold : {A : Type 0} → Result A HeaderError → Type 0
@@ -56,6 +56,15 @@ opening_not bytes =
     (λ v. bind_not (size_in (is_wide v.0) v.1) _ (size_not (is_wide v.0) v.1)
     (λ s. bind_not (first_bytes s.0 s.1) _ (front_not s.0 s.1)
     (λ text is. absurd cc))))
+
+-- a head has bytes
+pub head_bytes : (bytes : List ℕ) (x : Description × ℕ) → npy_header_in bytes ≡ Ok x → 0 < length bytes
+unfolding npy_header_in opening_in
+head_bytes [] x is = absurd cc
+head_bytes (b ∷ bytes) x is = omega arith
+
+pub lengths_bytes : (bytes : List ℕ) → HasLengths bytes → 0 < length bytes
+lengths_bytes bytes has = head_bytes bytes (has.0, has.1) has.2
 
 -- a dict whose elements fit in memory is a head
 pub head_is : (bytes text : List ℕ) (end : ℕ) (d : Description) → opening_in bytes ≡ Ok (end, text) → dict_in text ≡ Ok d → IsTrue (fits_memory (kind_size d.item_type.kind) d.array_shape) → npy_header_in bytes ≡ Ok (d, end)

@@ -24,6 +24,11 @@ pub product_on : (ns : List ℕ) (i p total : ℕ) → i < length ns → p * pro
 product_on ns i p total inside is =
     mul_assoc p (factor_of (get_or ns i 0)) (product_without_zeros (drop (i + 1) ns)) ∙ ap (λ x. p * x) (sym (left ns i inside)) ∙ is
 
+pub product_some : (p n : ℕ) → 0 < p → 0 < p * factor_of n
+product_some p n some =
+    let more : 1 * 1 ≤ p * factor_of n = mul-le-mul some (factor_positive n) in
+    omega (arith, more)
+
 -- a product that passes the limit on the way passes it at the end
 pub product_passes : (ns : List ℕ) (i p total : ℕ) → i < length ns → p * product_without_zeros (drop i ns) ≡ total → 2 ^ 63 ≤ p * factor_of (get_or ns i 0) → nat_lt total (2 ^ 63) ≡ false
 product_passes ns i p total inside is above =

@@ -14,11 +14,15 @@ python_truth_text false = codes "False"
 abbrev pub next_length : ℕ → List ℕ
 next_length n = codes ", " ++ decimal n
 
+-- Returns what ends a shape after its first length and these others: with a comma if there are no others.
+abbrev pub tuple_end : List ℕ → List ℕ
+tuple_end [] = codes ",)"
+tuple_end (n ∷ ns) = codes ")"
+
 -- Returns how a shape is written: its lengths in parentheses, with a comma after the length if there is only one.
 abbrev pub tuple_text : List ℕ → List ℕ
 tuple_text [] = codes "()"
-tuple_text (n ∷ []) = codes "(" ++ (decimal n ++ codes ",)")
-tuple_text (n ∷ m ∷ ns) = codes "(" ++ (decimal n ++ (flat_map next_length (m ∷ ns) ++ codes ")"))
+tuple_text (n ∷ ns) = codes "(" ++ (decimal n ++ (flat_map next_length ns ++ tuple_end ns))
 
 abbrev pub dict_text : Description → List ℕ
 dict_text d = codes "{'descr': '" ++ (item_type_text d.item_type ++ (codes "', 'fortran_order': " ++ (python_truth_text d.fortran_order ++ (codes ", 'shape': " ++ (tuple_text d.array_shape ++ codes ", }")))))

@@ -3,7 +3,7 @@
 ghost use Rattle.std.specs.Prelude.{◌≡◌, ◌+◌, ◌<◌, ◌≤◌, ◌^◌, length, IfOk};
 ghost use Rattle.std.specs.Result.{result_map_both};
 ghost use Rattle.nd_npy_text.specs.HeaderDescription.{size_width};
-ghost use Rattle.nd_npy_text.specs.HeaderReading.{magic, or_no_magic, version_numbered, version_in, size_in, first_bytes, text_in, opening_in};
+ghost use Rattle.nd_npy_text.specs.HeaderReading.{magic, or_no_magic, version_numbered, version_in, size_in, text_in, opening_in};
 ghost use Rattle.nd_npy_text.specs.HeaderTokens.{after_text};
 ghost use Rattle.nd_npy_text.specs.declared.errors.HeaderFlaw.TheVariants.{Beginning};
 
@@ -79,17 +79,6 @@ fn size_in(wide: bool, bytes: &[u8]) -> Result<(usize, &[u8]), HeaderError>
     }
 }
 
-/// Returns the first `size` bytes, or the error that the head is cut off.
-fn front_of(size: usize, bytes: &[u8]) -> Result<&[u8], HeaderError>
-    ensures value { result_map_both (λ x. x.now) (λ e. e) result ≡ first_bytes size bytes.now }
-    ensures enough { IfOk result (λ _. size ≤ length bytes.now) }
-{
-    if size > bytes.len() {
-        return Err(HeaderError::TooShort);
-    }
-    Ok(&bytes[..size])
-}
-
 /// Returns at which byte of the file the elements begin, and the text of the dict, which ends there; `bytes` are those
 /// that follow the version.
 #[tactic(auto, unfolding(crate::specs::HeaderReading::text_in))]
@@ -98,8 +87,10 @@ fn text_in(version: Version, bytes: &[u8]) -> Result<(usize, &[u8]), HeaderError
     ensures inside { IfOk result (λ x. x.0 ≤ length bytes.now + 8) }
 {
     let (size, bytes) = size_in(version.is_wide(), bytes)?;
-    let text = front_of(size, bytes)?;
-    Ok((version.text_start() + size, text))
+    if size > bytes.len() {
+        return Err(HeaderError::TooShort);
+    }
+    Ok((version.text_start() + size, &bytes[..size]))
 }
 
 /// Returns at which byte of the file the elements begin, and the text of the dict, which ends there.

@@ -30,7 +30,6 @@ fn times(product: usize, length: usize) -> Option<usize>
 
 /// Returns whether the product of the lengths that aren't 0, times the `size` bytes of an element, is at most
 /// `isize::MAX`.
-#[tactic(auto, using(crate::proofs::NonzeroProducts::product_on, crate::proofs::NonzeroProducts::product_passes, crate::proofs::NonzeroProducts::product_ends))]
 fn fits_memory(size: usize, shape: &[usize]) -> bool
     requires some { 0 < size }
     requires few { size ≤ 16 }

@@ -88,7 +88,6 @@ fn one_too_many(text: &[u8]) -> (usize, HeaderFlaw)
 }
 
 /// Returns the lengths up to the end of the shape, and what follows this end.
-#[tactic(auto, using(crate::proofs::LengthListReading::lengths_on, crate::proofs::LengthListReading::lengths_stop, crate::proofs::LengthListReading::lengths_many, crate::proofs::LengthListReading::lengths_end, crate::proofs::LengthListReading::lengths_unclosed, crate::proofs::LengthListReading::lengths_first))]
 fn lengths_in(text: &[u8]) -> Result<(Lengths, &[u8]), (usize, HeaderFlaw)>
     ensures value { result_map_both (λ x. (listed x.0, x.1.now)) (λ stop. stop) result ≡ lengths_in true 32 text.now }
     ensures axes { IfOk result (λ x. length (listed x.0) ≤ 32) }

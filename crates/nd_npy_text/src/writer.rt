@@ -5,7 +5,7 @@ ghost use Rattle.std.specs.Fmt.{decimal};
 ghost use Rattle.std.specs.List.{flat_map};
 ghost use Rattle.nd_npy_text.specs.HeaderDescription.{described};
 ghost use Rattle.nd_npy_text.specs.ItemTypes.{item_type_text};
-ghost use Rattle.nd_npy_text.specs.HeaderWriting.{python_truth_text, next_length, tuple_text, dict_text, growth_room, spaces, padded, roomy_text, front_text, with_front, npy_header_text};
+ghost use Rattle.nd_npy_text.specs.HeaderWriting.{python_truth_text, next_length, tuple_end, tuple_text, dict_text, growth_room, spaces, padded, roomy_text, front_text, with_front, npy_header_text};
 
 use crate::item_type::ItemType;
 use itoa::Buffer;
@@ -47,22 +47,32 @@ fn put_next_lengths(bytes: &mut Vec<u8>, lengths: &[usize]) -> Result<(), AllocE
     Ok(())
 }
 
-/// Puts a shape after the bytes.
-fn put_shape(bytes: &mut Vec<u8>, shape: &[usize]) -> Result<(), AllocError>
+/// Returns what ends a shape after its first length and these others: with a comma if there are no others.
+fn shape_end(others: &[usize]) -> &'static [u8]
+    ensures { result.now ≡ tuple_end others.now }
+{
+    match others {
+        [] => b",)",
+        _ => b")",
+    }
+}
+
+/// Puts a shape after the bytes, as Python writes it: its lengths in parentheses, with a comma after the length if there is
+/// only one.
+///
+/// # Errors
+///
+/// Fails with `AllocError` if memory for the bytes is refused. A part of the shape may then stand after the bytes.
+pub fn put_shape(bytes: &mut Vec<u8>, shape: &[usize]) -> Result<(), AllocError>
     ensures { OnOk result (bytes.new.items ≡ bytes.old.items ++ tuple_text shape.now) }
 {
     match shape {
         [] => put(bytes, b"()"),
-        [only] => {
-            put(bytes, b"(")?;
-            put_number(bytes, *only)?;
-            put(bytes, b",)")
-        }
         [first, others @ ..] => {
             put(bytes, b"(")?;
             put_number(bytes, *first)?;
             put_next_lengths(bytes, others)?;
-            put(bytes, b")")
+            put(bytes, shape_end(others))
         }
     }
 }

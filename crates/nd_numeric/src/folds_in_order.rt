@@ -24,8 +24,7 @@ fn fold_pairs_in_order<
     S: Data<Elem = A>,
     D: Dimension,
     Z: Data<Elem = C>,
-    E: Dimension,
->(array: &ArrayBase<S, D>, other: &ArrayBase<Z, E>, operation: O, init: B) -> B
+>(array: &ArrayBase<S, D>, other: &ArrayBase<Z, D>, operation: O, init: B) -> B
     requires { CanMeet array.now other.now }
     ensures { result ≡ folded_with_other (O.gives operation) init array.now other.now }
 {

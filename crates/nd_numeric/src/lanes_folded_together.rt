@@ -28,6 +28,14 @@ fn has_shorter(strides: &[isize], stride: isize) -> bool {
     false
 }
 
+/// Returns whether `first`, the part of an array at one coordinate of an axis, has many elements, which aren't contiguous
+/// and lie nearer to each other than `stride`, the stride of the axis.
+fn begin_across<S: Data, D: Dimension>(first: &ArrayBase<S, D>, stride: isize) -> bool {
+    first.len() >= FEWEST_LANES_FOLDED_TOGETHER
+        && !first.is_standard_layout()
+        && has_shorter(first.strides(), stride)
+}
+
 /// Returns whether the lanes of an axis are many, lie nearer to each other than the elements of a lane do, and don't
 /// begin at contiguous places. Where they do, `fold_axis` takes them together itself.
 pub(crate) fn lie_across<S: Data, D: RemoveAxis>(array: &ArrayBase<S, D>, axis: Axis) -> bool
@@ -37,10 +45,7 @@ pub(crate) fn lie_across<S: Data, D: RemoveAxis>(array: &ArrayBase<S, D>, axis: 
     if array.len_of(axis) == 0 {
         return false;
     }
-    let first = array.index_axis(axis, 0);
-    first.len() >= FEWEST_LANES_FOLDED_TOGETHER
-        && !first.is_standard_layout()
-        && has_shorter(first.strides(), array.stride_of(axis))
+    begin_across(&array.index_axis(axis, 0), array.stride_of(axis))
 }
 
 /// Returns an array with a clone of `init` for each lane of an axis.

@@ -1,9 +1,10 @@
 //! The least and the greatest element.
 
-ghost use Rattle.std.specs.Prelude.{◌≡◌};
+ghost use Rattle.std.specs.Prelude.{◌≡◌, IsTrue};
 ghost use Rattle.std.specs.List.{reduce};
 ghost use Rattle.nd_array_core.specs.ArrayMeaning.{meaning_of};
 ghost use Rattle.nd_array_core.specs.ConcatenationAndSplit.{row_major_elements};
+ghost use Rattle.nd_array_core.specs.elements.ElementFolds.{IsOrderFree};
 ghost use Rattle.nd_numeric.specs.LeastAndGreatest.{lesser_by, greater_by};
 
 use crate::folds_in_order::fold_from_first;
@@ -56,13 +57,25 @@ impl<A: Ordered> Operation<A, A> for Greatest {
     }
 }
 
+/// Returns whether the least and the greatest of such numbers are the same in any order of them. Of a number and itself
+/// either one is that number.
+#[inline]
+fn ends_are_free<A: Distinct>() -> bool
+    ensures lesser_of_one { (x : A) → lesser_by A.order x x ≡ x }
+    ensures greater_of_one { (x : A) → greater_by A.order x x ≡ x }
+    ensures least { IsTrue result → IsOrderFree (lesser_by A.order) }
+    ensures greatest { IsTrue result → IsOrderFree (greater_by A.order) }
+{
+    A::is_distinct()
+}
+
 /// Returns the least element, or `None` if there are no elements. Of equal elements it is the first in row-major order.
 /// Integers, of which equal ones are the same, are taken as they lie in memory. In the order of floats a NaN comes after
 /// all numbers, so it is the least only if all elements are NaN. This is ndarray-stats' `min`, which refuses a NaN.
 pub fn min<A: Distinct, S: Data<Elem = A>, D: Dimension>(array: &ArrayBase<S, D>) -> Option<A>
     ensures { result ≡ reduce (lesser_by A.order) (row_major_elements (meaning_of array.now)) }
 {
-    fold_from_first(array, Least, A::is_distinct())
+    fold_from_first(array, Least, ends_are_free::<A>())
 }
 
 /// Returns the greatest element, or `None` if there are no elements. Of equal elements it is the first in row-major
@@ -71,5 +84,5 @@ pub fn min<A: Distinct, S: Data<Elem = A>, D: Dimension>(array: &ArrayBase<S, D>
 pub fn max<A: Distinct, S: Data<Elem = A>, D: Dimension>(array: &ArrayBase<S, D>) -> Option<A>
     ensures { result ≡ reduce (greater_by A.order) (row_major_elements (meaning_of array.now)) }
 {
-    fold_from_first(array, Greatest, A::is_distinct())
+    fold_from_first(array, Greatest, ends_are_free::<A>())
 }

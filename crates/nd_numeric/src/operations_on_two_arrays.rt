@@ -1,14 +1,14 @@
 //! New arrays of what an operation returns for the elements of two arrays.
 
 ghost use Rattle.std.specs.Prelude.{◌≡◌, ◌<◌, ℕ, List, length, slice_get, vec_len, IfOk, IfSome, OnErr};
-ghost use Rattle.nd_shape_and_slice.specs.ShapesAndIndexOrders.{row_rank, size_of, HasCheckedSize};
+ghost use Rattle.nd_shape_and_slice.specs.ShapesAndIndexOrders.{row_rank, size_of};
 ghost use Rattle.nd_array_core.specs.ArrayMeaning.{element_at, inside, shape_of};
 ghost use Rattle.nd_numeric.specs.EqualShapeArithmetic.{IsOfAlike, ListsBoth};
 ghost use Rattle.nd_numeric.specs.ElementwiseArithmetic.{CanMeet, IsOfBoth};
 
 use nd_array_core::arithmetic::combined as combined_after_copy;
 use nd_array_core::laws::{
-    broadcast_to_itself, elements_by_rank, maps_lead_inside, nothing_outside, shape_is_checked,
+    broadcast_to_itself, elements_by_rank, nothing_outside, shape_is_checked,
 };
 use nd_array_core::{Array, ArrayBase, Data};
 use nd_numbers::{Arithmetic, Operation};
@@ -35,14 +35,15 @@ fn combined_items<A, B, O: Operation<A, B>>(
     Ok(items)
 }
 
-/// Returns the array of the shape `dim` whose elements in row-major order are `items`, of which there must be as many.
-fn of_items<A: Drop, D: Dimension>(items: Vec<A>, dim: D) -> Array<A, D>
-    requires checked { HasCheckedSize (D.lengths dim) }
-    requires count { vec_len items ≡ size_of (D.lengths dim) }
-    ensures shape { shape_of result ≡ D.lengths dim }
-    ensures elements { (i : List ℕ) → element_at result i ≡ inside (D.lengths dim) i (slice_get items.items (row_rank (D.lengths dim) i)) }
+/// Returns the array of the shape of `array` whose elements in row-major order are `items`, of which there must be as many
+/// as the shape has indexes.
+fn of_items<A: Drop, S: Data, D: Dimension>(items: Vec<A>, array: &ArrayBase<S, D>) -> Array<A, D>
+    requires { vec_len items ≡ size_of (shape_of array.now) }
+    ensures shape { shape_of result ≡ shape_of array.now }
+    ensures elements { (i : List ℕ) → element_at result i ≡ inside (shape_of array.now) i (slice_get items.items (row_rank (shape_of array.now) i)) }
 {
-    match Array::from_shape_vec(dim, items) {
+    shape_is_checked(array);
+    match Array::from_shape_vec(array.raw_dim(), items) {
         Ok(array) => array,
         Err(_) => unreachable!(),
     }
@@ -51,7 +52,7 @@ fn of_items<A: Drop, D: Dimension>(items: Vec<A>, dim: D) -> Array<A, D>
 /// Returns a new array of what `operation` returns for the elements of `array` and `other` at each index, or `None` if
 /// either isn't in the standard layout. Both must have the same shape. Fails with `NoMemory` if the storage is refused.
 fn combined_in_order<
-    A: Arithmetic,
+    A: Drop,
     O: Operation<A, A>,
     S: Data<Elem = A>,
     D: Dimension,
@@ -71,19 +72,18 @@ fn combined_in_order<
         (Some(xs), Some(ys)) => (xs, ys),
         _ => return Ok(None),
     };
-    shape_is_checked(array);
     elements_by_rank(array);
     elements_by_rank(other);
     nothing_outside(array);
     let items = combined_items(alloc, xs, ys, operation)?;
-    Ok(Some(of_items(items, array.raw_dim())))
+    Ok(Some(of_items(items, array)))
 }
 
 /// Returns a new array of what `operation` returns for the elements of `array` and `other` at each index, or `None` if
 /// neither both are contiguous in row-major order nor both in column-major order. Both must have the same shape. Fails
 /// with `NoMemory` if the storage is refused.
 fn combined_alike<
-    A: Arithmetic,
+    A: Drop,
     O: Operation<A, A>,
     S: Data<Elem = A>,
     D: Dimension,
@@ -102,9 +102,7 @@ fn combined_alike<
     if let Some(made) = combined_in_order(alloc, array, other, operation)? {
         return Ok(Some(made));
     }
-    maps_lead_inside();
     nothing_outside(array);
-    nothing_outside(other);
     match combined_in_order(alloc, &array.t(), &other.t(), operation)? {
         Some(made) => Ok(Some(made.reversed_axes())),
         None => Ok(None),

@@ -21,7 +21,7 @@ use nd_shape_and_slice::{Axis, Dimension, NoMemory, RemoveAxis};
 use std::alloc::Global;
 
 /// The operation that adds the square of the distance of the right number from `mean` to the left number.
-#[derive(Clone, Copy)]
+#[derive(Drop)]
 struct PlusSquare<A> {
     mean: A,
 }
@@ -128,7 +128,7 @@ pub fn var_axis<A: Real, S: Data<Elem = A>, D: RemoveAxis>(
     Some(variances_of(alloc, array, axis, ddof))
 }
 
-/// The operation that takes the square root of the left number. There is nothing on the right.
+/// The operation that takes the square root of the left number. Its right side is ignored.
 #[derive(Drop)]
 struct Root;
 

@@ -6,20 +6,35 @@ use nd_npy::reader::{read_npy, view_npy};
 use nd_npy::writer::npy_bytes_as;
 use nd_npy_text::reader::read_header;
 use std::alloc::Global;
-use std::process::Abort;
 
-/// Checks that each file is read as an array of items of this type, and that the array is written as the file in
-/// row-major order beside it.
-fn kept<A: NpyItem>(rt: &impl Abort, alloc: Global, table: &[(File, &[usize], File)]) {
+/// Returns whether each file is read as an array of items of this type, and the array is written as the file in row-major
+/// order beside it.
+fn are_kept<A: NpyItem>(alloc: Global, table: &[(File, &[usize], File)]) -> bool {
     for (file, shape, written) in table {
-        let bytes = bytes_of(alloc, file).expect(rt, "memory");
-        let (header, _start) = read_header(alloc, bytes.as_slice()).expect(rt, "a head");
-        let array = read_npy::<A>(alloc, bytes.as_slice()).expect(rt, "an array");
-        assert!(rt; array.shape() == *shape);
-        assert!(rt; A::accepts(header.item_type.kind));
-        let again = npy_bytes_as(alloc, header.item_type, &array).expect(rt, "memory");
-        let saved = bytes_of(alloc, written).expect(rt, "memory");
-        assert!(rt; again.as_slice() == saved.as_slice());
+        let (Ok(bytes), Ok(saved)) = (bytes_of(alloc, file), bytes_of(alloc, written)) else {
+            return false;
+        };
+        if !is_kept::<A>(alloc, &bytes, shape, &saved) {
+            return false;
+        }
+    }
+    true
+}
+
+/// Returns whether a file is read as an array of items of this type, and the array is written as `saved`.
+fn is_kept<A: NpyItem>(alloc: Global, bytes: &[u8], shape: &[usize], saved: &[u8]) -> bool {
+    let Ok((header, _start)) = read_header(alloc, bytes) else {
+        return false;
+    };
+    let Ok(array) = read_npy::<A>(alloc, bytes) else {
+        return false;
+    };
+    if array.shape() != shape || !A::accepts(header.item_type.kind) {
+        return false;
+    }
+    match npy_bytes_as(alloc, header.item_type, &array) {
+        Ok(written) => written.as_slice() == saved,
+        Err(_) => false,
     }
 }
 
@@ -33,7 +48,7 @@ const HALVES: File = File {
 #[test]
 fn items_of_two_bytes(rt: HostRuntime) {
     const TABLE: [(File, &[usize], File); 1] = [(HALVES, &[2], HALVES)];
-    kept::<[u8; 2]>(&rt, rt.alloc(), &TABLE);
+    assert!(rt; are_kept::<[u8; 2]>(rt.alloc(), &TABLE));
 }
 
 #[test]
@@ -59,7 +74,7 @@ fn items_of_eight_bytes(rt: HostRuntime) {
             },
         ),
     ];
-    kept::<[u8; 8]>(&rt, rt.alloc(), &TABLE);
+    assert!(rt; are_kept::<[u8; 8]>(rt.alloc(), &TABLE));
 }
 
 #[test]
@@ -70,7 +85,7 @@ fn items_of_sixteen_bytes(rt: HostRuntime) {
         data: b"\x00\x00\x00\x00\x00\x00\xf0?\x00\x00\x00\x00\x00\x00\x00@",
     };
     const TABLE: [(File, &[usize], File); 1] = [(COMPLEX, &[1], COMPLEX)];
-    kept::<[u8; 16]>(&rt, rt.alloc(), &TABLE);
+    assert!(rt; are_kept::<[u8; 16]>(rt.alloc(), &TABLE));
 }
 
 #[test]
@@ -81,7 +96,7 @@ fn items_of_one_byte(rt: HostRuntime) {
         data: b"\x01",
     };
     const TABLE: [(File, &[usize], File); 1] = [(TRUTH, &[1], TRUTH)];
-    kept::<[u8; 1]>(&rt, rt.alloc(), &TABLE);
+    assert!(rt; are_kept::<[u8; 1]>(rt.alloc(), &TABLE));
 }
 
 #[test]

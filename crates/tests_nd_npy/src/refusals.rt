@@ -1,22 +1,25 @@
 //! Bytes that mean no array of the type that is asked for.
 
-use nd_npy::ReadNpyError;
 use nd_npy::reader::read_npy;
+use nd_npy::{NpyItem, ReadNpyError};
 use nd_npy_text::{HeaderError, HeaderFlaw, Kind};
 use std::alloc::Global;
-use std::process::Abort;
 
 /// The head of a file of one number of four bytes, as numpy writes it.
 const HEAD: &[u8] =
     b"\x93NUMPY\x01\x00\x76\x00{'descr': '<i4', 'fortran_order': False, 'shape': (1,), }                                                            \n";
 
-/// Checks that reading the head and these bytes as numbers of four bytes fails with the error.
-fn refused(rt: &impl Abort, alloc: Global, data: &[u8], error: ReadNpyError) {
-    let mut bytes = Vec::from_slice(alloc, HEAD).expect(rt, "memory");
-    bytes.extend_from_slice(data).expect(rt, "memory");
-    match read_npy::<i32>(alloc, bytes.as_slice()) {
-        Ok(_) => assert!(rt; false),
-        Err(cause) => assert!(rt; cause == error),
+/// Returns the error for which the head and these bytes aren't read as an array of `A`, if memory is there.
+fn refusal<A: NpyItem>(alloc: Global, data: &[u8]) -> Option<ReadNpyError> {
+    let Ok(mut bytes) = Vec::from_slice(alloc, HEAD) else {
+        return None;
+    };
+    if bytes.extend_from_slice(data).is_err() {
+        return None;
+    }
+    match read_npy::<A>(alloc, &bytes) {
+        Ok(_) => None,
+        Err(error) => Some(error),
     }
 }
 
@@ -28,33 +31,22 @@ fn too_few_or_too_many_bytes(rt: HostRuntime) {
             expected: 4,
             found: data.len(),
         };
-        refused(&rt, rt.alloc(), data, error);
-    }
-}
-
-/// Reads the head and these bytes as `f32`.
-fn kind_refused(rt: &impl Abort, alloc: Global, data: &[u8]) {
-    let mut bytes = Vec::from_slice(alloc, HEAD).expect(rt, "memory");
-    bytes.extend_from_slice(data).expect(rt, "memory");
-    match read_npy::<f32>(alloc, bytes.as_slice()) {
-        Ok(_) => assert!(rt; false),
-        Err(cause) => assert!(rt; cause == ReadNpyError::OtherKind(Kind::Int32)),
+        assert!(rt; refusal::<i32>(rt.alloc(), data) == Some(error));
     }
 }
 
 #[test]
 fn another_kind(rt: HostRuntime) {
-    kind_refused(&rt, rt.alloc(), b"\x01\x00\x00\x00");
+    let error = ReadNpyError::OtherKind(Kind::Int32);
+    assert!(rt; refusal::<f32>(rt.alloc(), b"\x01\x00\x00\x00") == Some(error));
     // The kind comes before the number of bytes.
-    kind_refused(&rt, rt.alloc(), b"\x01");
+    assert!(rt; refusal::<f32>(rt.alloc(), b"\x01") == Some(error));
 }
 
 #[test]
 fn items_of_another_size(rt: HostRuntime) {
-    match read_npy::<[u8; 8]>(rt.alloc(), HEAD) {
-        Ok(_) => assert!(rt; false),
-        Err(cause) => assert!(rt; cause == ReadNpyError::OtherKind(Kind::Int32)),
-    }
+    let error = ReadNpyError::OtherKind(Kind::Int32);
+    assert!(rt; refusal::<[u8; 8]>(rt.alloc(), b"") == Some(error));
 }
 
 #[test]

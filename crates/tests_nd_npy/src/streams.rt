@@ -9,7 +9,6 @@ use nd_npy_text::{ByteOrder, HeaderError, ItemType, Kind};
 use std::alloc::Global;
 use std::io;
 use std::io::{ErrorKind, Read, Write};
-use std::process::Abort;
 
 // A reader that gives at most `most` bytes in each call, and fails at the byte `cut`.
 #[derive(Drop)]
@@ -96,27 +95,47 @@ fn counts_to_six(array: &ArrayD<i32>) -> bool {
     last == 6
 }
 
-/// Checks that a file is read as the two rows, whatever so many bytes at a time, and is written again as it was.
-fn read_and_written(rt: &impl Abort, alloc: Global, file: &File, fortran_order: bool) {
-    let bytes = bytes_of(alloc, file).expect(rt, "memory");
+/// Returns whether the array is written as these bytes, and in the other order, which is Fortran's if `fortran_order` is
+/// true, as those of `other`.
+fn is_written(
+    alloc: Global,
+    array: &ArrayD<i32>,
+    bytes: &[u8],
+    fortran_order: bool,
+    other: &[u8],
+) -> bool {
+    let mut output = Watched::new(Vec::new(alloc));
+    let mut others = Watched::new(Vec::new(alloc));
+    write_npy(alloc, &mut output, array).is_ok()
+        && write_npy_in(alloc, &mut others, LITTLE, fortran_order, array).is_ok()
+        && output.into_inner().as_slice() == bytes
+        && others.into_inner().as_slice() == other
+}
+
+/// Returns whether a file is read as the two rows, whatever so many bytes at a time, and is written again as it was, and
+/// in the other order as the file `other`.
+fn is_kept(alloc: Global, file: &File, fortran_order: bool, other: &File) -> bool {
+    let (Ok(bytes), Ok(other)) = (bytes_of(alloc, file), bytes_of(alloc, other)) else {
+        return false;
+    };
     for most in 1..20 {
-        let array = read::<i32>(alloc, &bytes, most).expect(rt, "an array");
-        assert!(rt; array.shape() == [2, 3].as_slice() && counts_to_six(&array));
-        let mut output = Watched::new(Vec::new(alloc));
-        write_npy(alloc, &mut output, &array).expect(rt, "a file");
-        assert!(rt; output.into_inner().as_slice() == bytes.as_slice());
-        let mut output = Watched::new(Vec::new(alloc));
-        write_npy_in(alloc, &mut output, LITTLE, !fortran_order, &array).expect(rt, "a file");
-        let other = if fortran_order { &ROWS } else { &COLUMNS };
-        let other = bytes_of(alloc, other).expect(rt, "memory");
-        assert!(rt; output.into_inner().as_slice() == other.as_slice());
+        let Ok(array) = read::<i32>(alloc, &bytes, most) else {
+            return false;
+        };
+        if array.shape() != [2, 3].as_slice()
+            || !counts_to_six(&array)
+            || !is_written(alloc, &array, &bytes, !fortran_order, &other)
+        {
+            return false;
+        }
     }
+    true
 }
 
 #[test]
 fn both_orders(rt: HostRuntime) {
-    read_and_written(&rt, rt.alloc(), &ROWS, false);
-    read_and_written(&rt, rt.alloc(), &COLUMNS, true);
+    assert!(rt; is_kept(rt.alloc(), &ROWS, false, &COLUMNS));
+    assert!(rt; is_kept(rt.alloc(), &COLUMNS, true, &ROWS));
 }
 
 #[test]
@@ -135,14 +154,15 @@ fn a_read_that_fails(rt: HostRuntime) {
     }
 }
 
-/// Checks that the bytes are refused with this error when they are read as `i32`.
-fn refused(rt: &impl Abort, alloc: Global, bytes: &[u8], error: ReadNpyError) {
+/// Returns whether the bytes are refused with this error when they are read as `i32`.
+fn are_refused(alloc: Global, bytes: &[u8], error: ReadNpyError) -> bool {
     for most in [1, 7, 1000].as_slice() {
         match read::<i32>(alloc, bytes, *most) {
-            Ok(_) => assert!(rt; false),
-            Err(cause) => assert!(rt; cause == ReadNpyFromError::File(error)),
+            Err(cause) if cause == ReadNpyFromError::File(error) => {}
+            _ => return false,
         }
     }
+    true
 }
 
 /// Returns the first bytes, as many as there are up to this number.
@@ -150,36 +170,54 @@ fn front(bytes: &[u8], len: usize) -> &[u8] {
     &bytes[..bytes.len().min(len)]
 }
 
+/// Returns the error for a file with so many bytes behind its head, in place of 24.
+fn wrong_size(found: usize) -> ReadNpyError {
+    ReadNpyError::WrongSize {
+        expected: 24,
+        found,
+    }
+}
+
+/// How many bytes of a head are there, and why the head is refused.
+const HEADS: [(usize, HeaderError); 8] = [
+    (6, HeaderError::TooShort),
+    (8, HeaderError::TooShort),
+    (9, HeaderError::TooShort),
+    (10, HeaderError::TooShort),
+    (11, HeaderError::TooShort),
+    (127, HeaderError::TooShort),
+    (0, HeaderError::NoMagic),
+    (5, HeaderError::NoMagic),
+];
+
+/// Returns whether a file of two rows is refused where it ends in its head or in its elements.
+fn beginnings_are_refused(alloc: Global, bytes: &[u8]) -> bool {
+    for (len, error) in &HEADS {
+        if !are_refused(alloc, front(bytes, *len), ReadNpyError::Header(*error)) {
+            return false;
+        }
+    }
+    for found in [0usize, 1, 4, 23].as_slice() {
+        let len = found.saturating_add(128);
+        if !are_refused(alloc, front(bytes, len), wrong_size(*found)) {
+            return false;
+        }
+    }
+    true
+}
+
 #[test]
 fn bytes_that_are_refused(rt: HostRuntime) {
     let alloc = rt.alloc();
     let mut bytes = bytes_of(alloc, &ROWS).expect(&rt, "memory");
-    for found in [0u8, 1, 4, 23].as_slice() {
-        let error = ReadNpyError::WrongSize {
-            expected: 24,
-            found: usize::from(*found),
-        };
-        refused(&rt, alloc, front(&bytes, 128 + usize::from(*found)), error);
-    }
+    assert!(&rt; beginnings_are_refused(alloc, &bytes));
     bytes.push(7).expect(&rt, "memory");
-    let error = ReadNpyError::WrongSize {
-        expected: 24,
-        found: 25,
+    assert!(&rt; are_refused(alloc, &bytes, wrong_size(25)));
+    let other = match read::<f32>(alloc, &bytes, 3) {
+        Ok(_) => false,
+        Err(cause) => cause == ReadNpyFromError::File(ReadNpyError::OtherKind(Kind::Int32)),
     };
-    refused(&rt, alloc, &bytes, error);
-    let other = ReadNpyError::OtherKind(Kind::Int32);
-    match read::<f32>(alloc, &bytes, 3) {
-        Ok(_) => assert!(&rt; false),
-        Err(cause) => assert!(&rt; cause == ReadNpyFromError::File(other)),
-    }
-    for len in [6, 8, 9, 10, 11, 127].as_slice() {
-        let error = ReadNpyError::Header(HeaderError::TooShort);
-        refused(&rt, alloc, front(&bytes, *len), error);
-    }
-    for len in [0, 5].as_slice() {
-        let error = ReadNpyError::Header(HeaderError::NoMagic);
-        refused(&rt, alloc, front(&bytes, *len), error);
-    }
+    assert!(&rt; other);
 }
 
 #[test]

@@ -24,7 +24,10 @@ fn sums_of_columns<S: Data<Elem = f64>>(
 }
 
 /// Divides each cell of `table` by the element of `divisors` for its column.
-fn divide_columns<S: DataMut<Elem = f64>>(table: &mut ArrayBase<S, Ix2>, divisors: &Array1<f64>)
+fn divide_columns<S: DataMut<Elem = f64>, Z: Data<Elem = f64>>(
+    table: &mut ArrayBase<S, Ix2>,
+    divisors: &ArrayBase<Z, Ix1>,
+)
     requires { HasLength divisors.now (columns_of table.old) }
     ensures { ShowsTable table.new (with_numbers (div binary64) (line_of divisors.now) (table_of table.old)) }
 {
@@ -61,7 +64,10 @@ fn means_of_columns<S: Data<Elem = f64>>(
 }
 
 /// Subtracts from each cell of `table` the element of `numbers` for its column.
-fn move_columns<S: DataMut<Elem = f64>>(table: &mut ArrayBase<S, Ix2>, numbers: &Array1<f64>)
+fn move_columns<S: DataMut<Elem = f64>, Z: Data<Elem = f64>>(
+    table: &mut ArrayBase<S, Ix2>,
+    numbers: &ArrayBase<Z, Ix1>,
+)
     requires { HasLength numbers.now (columns_of table.old) }
     ensures { ShowsTable table.new (with_numbers (sub binary64) (line_of numbers.now) (table_of table.old)) }
 {

@@ -83,7 +83,7 @@ module _ {A : Type 0} (E : A → A → Bool) where
           ∙ compared_then k (n - k) (λ j below. some j (omega (arith, below, within))) (λ j below. other j (omega (arith, below, within)))
           ∙ ap (λ t. t && pointwise E (collected (λ j. f (k + j)) (n - k)) (collected (λ j. h (k + j)) (n - k))) before
 
-      front_differs : (k : ℕ) → k ≤ n → pointwise E (collected f k) (collected h k) ≡ false → pointwise E (collected f n) (collected h n) ≡ false
+      pub front_differs : (k : ℕ) → k ≤ n → pointwise E (collected f k) (collected h k) ≡ false → pointwise E (collected f n) (collected h n) ≡ false
       front_differs k within differs =
           let whole : n ≡ k + (n - k) = omega (arith, within) in
           ap (λ m. pointwise E (collected f m) (collected h m)) whole

@@ -11,7 +11,9 @@ ghost use Rattle.nd_elements.specs.ElementsAtNumberedPlaces.{in_turn, Holds, Pla
 ghost use Rattle.nd_elements.specs.elements.AssignedElements.{AssignsAt, AssignsAlong, Assigns};
 
 use crate::storage::{Data, DataMut, ViewMutRepr};
-use nd_layout::{Lane, Layout, Places, halved_alike, is_worth_turning, turned_alike};
+use nd_layout::{
+    Lane, Layout, Places, columns_as_rows, halved_alike, is_worth_turning, turned_alike,
+};
 use nd_region::Region;
 use nd_shape_and_slice::{Dimension, NoMemory, StrideList};
 
@@ -65,8 +67,8 @@ fn assign_in_region<'b, A: Clone + Drop, Z: Data<Elem = A>>(
 }
 
 /// Writes a clone of each element along `other_lane` of `others` over the element with the same position along `lane`
-/// of `storage`. The lane is lent as a region before the loop, so that the compiler need not read the storage's start
-/// again after each write.
+/// of `storage`. The lane is lent as a region before the loop, so that the compiler need not read again after each write
+/// where the storage begins in memory.
 #[inline(always)]
 fn assign_lent<A: Clone + Drop, S: DataMut<Elem = A>, Z: Data<Elem = A>>(
     storage: &mut S,
@@ -119,7 +121,7 @@ fn assign_slice<A: Clone + Drop>(xs: &mut [A], ys: &[A]) -> Result<(), NoMemory>
 
 /// Writes a clone of each element along `other_lane` of `others` over the element with the same position along `lane`
 /// of `storage`. Both lanes must have stride 1. They are borrowed as slices before the loop, so that the compiler need
-/// not read their start again after each write.
+/// not read again after each write where they begin in memory.
 fn assign_contiguous<A: Clone + Drop, S: DataMut<Elem = A>, Z: Data<Elem = A>>(
     storage: &mut S,
     lane: Lane,
@@ -164,7 +166,7 @@ fn assign_slice_from_strided<A: Clone + Drop, Z: Data<Elem = A>>(
 
 /// Writes a clone of each element along `other_lane` of `others` over the element with the same position along `lane`
 /// of `storage`. `lane` must have stride 1. It is borrowed as a slice before the loop, so that the compiler need not
-/// read its start again after each write.
+/// read again after each write where it begins in memory.
 fn assign_contiguous_from_strided<A: Clone + Drop, S: DataMut<Elem = A>, Z: Data<Elem = A>>(
     storage: &mut S,
     lane: Lane,
@@ -331,8 +333,8 @@ where
 }
 
 /// Writes at the place of each index of `layout` a clone of the element that `others` has at that index under `paired`,
-/// in an order that goes along memory: if that is worth while, permutes the axes of both layouts in the same way, and
-/// cuts both in halves.
+/// in an order that goes along memory: column by column, if the places of both are consecutive so, or else, if that is
+/// worth while, permutes the axes of both layouts in the same way, and cuts both in halves.
 pub fn assign_layouts<A, S, Z, D, T>(
     storage: &mut S,
     layout: &Layout<D, T>,
@@ -357,6 +359,9 @@ where
     ensures others { LeavesOthers S.stored layout.now storage.old storage.new }
     ensures frame { S.frame storage.new ≡ S.frame storage.old }
 {
+    if let Some((rows, other_rows)) = columns_as_rows(layout, paired) {
+        return assign_in_order(storage, &rows, others, &other_rows);
+    }
     if !is_worth_turning(layout, paired) {
         return assign_in_order(storage, layout, others, paired);
     }

@@ -8,7 +8,9 @@ ghost use Rattle.nd_elements.specs.ElementsAtNumberedPlaces.{Holds, PlacesDiffer
 ghost use Rattle.nd_elements.specs.elements.AssignedElements.{MovesAlong, Moves};
 
 use crate::storage::DataMut;
-use nd_layout::{Lane, Layout, Places, halved_alike, is_worth_turning, turned_alike};
+use nd_layout::{
+    Lane, Layout, Places, columns_as_rows, halved_alike, is_worth_turning, turned_alike,
+};
 use nd_shape_and_slice::{Dimension, StrideList};
 use std::mem;
 
@@ -170,8 +172,8 @@ where
 }
 
 /// Exchanges, at each index, the element of `storage` under `layout` with the element of `others` under `paired`, in an
-/// order that goes along memory: if that is worth while, permutes the axes of both layouts in the same way, and cuts
-/// both in halves.
+/// order that goes along memory: column by column, if the places of both are consecutive so, or else, if that is worth
+/// while, permutes the axes of both layouts in the same way, and cuts both in halves.
 pub fn exchange_layouts<A, S, Z, D, T>(
     storage: &mut S,
     layout: &Layout<D, T>,
@@ -194,6 +196,10 @@ where
     ensures others_left { LeavesOthers Z.stored paired.now others.old others.new }
     ensures frame { S.frame storage.new ≡ S.frame storage.old }
 {
+    if let Some((rows, other_rows)) = columns_as_rows(layout, paired) {
+        exchange_in_order(storage, &rows, others, &other_rows);
+        return;
+    }
     if !is_worth_turning(layout, paired) {
         exchange_in_order(storage, layout, others, paired);
         return;

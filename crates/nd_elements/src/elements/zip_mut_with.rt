@@ -10,7 +10,9 @@ ghost use Rattle.nd_elements.specs.ElementsAtNumberedPlaces.{in_turn, Holds, Pla
 ghost use Rattle.nd_elements.specs.elements.PairsWithOneWritten.{ChangesBoth, TakesBoth, MayZipAt, ZipsAt, MayZipAlong, ZipsAlong, MayZip, Zips};
 
 use crate::storage::{Data, DataMut, ViewMutRepr};
-use nd_layout::{Lane, Layout, Places, halved_alike, is_worth_turning, turned_alike};
+use nd_layout::{
+    Lane, Layout, Places, columns_as_rows, halved_alike, is_worth_turning, turned_alike,
+};
 use nd_region::Region;
 use nd_shape_and_slice::{Dimension, StrideList};
 
@@ -82,7 +84,7 @@ fn zip_in_region<'b, A, B, Z: Data<Elem = B>, F: FnMut(&mut A, &B)>(
 
 /// Calls `f` with a mutable reference to each element along `lane` of `storage`, and with the element that has the same
 /// position along `other_lane` of `others`. The lane is lent as a region before the loop, so that the compiler need not
-/// read the storage's start again after each call. Returns `f`, as the calls left it.
+/// read again after each call where the storage begins in memory. Returns `f`, as the calls left it.
 #[inline(always)]
 fn zip_lent<B, S: DataMut, Z: Data<Elem = B>, F: FnMut(&mut S::Elem, &B)>(
     storage: &mut S,
@@ -133,7 +135,8 @@ fn zip_slice<A, B, F: FnMut(&mut A, &B)>(xs: &mut [A], ys: &[B], mut f: F) -> F
 
 /// Calls `f` with a mutable reference to each element along `lane` of `storage`, and with the element that has the same
 /// position along `other_lane` of `others`. Both lanes must have stride 1. They are borrowed as slices before the loop,
-/// so that the compiler need not read their start again after each write. Returns `f`, as the calls left it.
+/// so that the compiler need not read again after each write where they begin in memory. Returns `f`, as the calls left
+/// it.
 fn zip_contiguous<B, S: DataMut, Z: Data<Elem = B>, F: FnMut(&mut S::Elem, &B)>(
     storage: &mut S,
     lane: Lane,
@@ -179,7 +182,7 @@ fn zip_slice_with_strided<A, B, Z: Data<Elem = B>, F: FnMut(&mut A, &B)>(
 
 /// Calls `f` with a mutable reference to each element along `lane` of `storage`, and with the element that has the same
 /// position along `other_lane` of `others`. `lane` must have stride 1. It is borrowed as a slice before the loop, so
-/// that the compiler need not read its start again after each write. Returns `f`, as the calls left it.
+/// that the compiler need not read again after each write where it begins in memory. Returns `f`, as the calls left it.
 fn zip_contiguous_with_strided<B, S: DataMut, Z: Data<Elem = B>, F: FnMut(&mut S::Elem, &B)>(
     storage: &mut S,
     lane: Lane,
@@ -349,8 +352,9 @@ where
 }
 
 /// Calls `f`, at each index, with a mutable reference to the element of `storage` under `layout`, and with the element
-/// of `others` under `paired`. The order is unspecified and goes along memory: if that is worth while, permutes the
-/// axes of both layouts in the same way, and cuts both in halves.
+/// of `others` under `paired`. The order is unspecified and goes along memory: column by column, if the places of both
+/// are consecutive so, or else, if that is worth while, permutes the axes of both layouts in the same way, and cuts both
+/// in halves.
 pub fn zip_layouts<B, S, Z, D, T, F>(
     storage: &mut S,
     layout: &Layout<D, T>,
@@ -374,6 +378,10 @@ where
     ensures others { LeavesOthers S.stored layout.now storage.old storage.new }
     ensures frame { S.frame storage.new ≡ S.frame storage.old }
 {
+    if let Some((rows, other_rows)) = columns_as_rows(layout, paired) {
+        zip_in_order(storage, &rows, others, &other_rows, f);
+        return;
+    }
     if !is_worth_turning(layout, paired) {
         zip_in_order(storage, layout, others, paired, f);
         return;

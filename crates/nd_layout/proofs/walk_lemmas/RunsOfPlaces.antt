@@ -71,7 +71,7 @@ module _ (first : ℕ) (ns : List ℕ) (ss : List ℤ) (as_many : length ss ≡ 
       subst (λ c. IsLane first ns ss rank first c (get_or ss k (pos 0))) whole (lane_of_last first (start ∙ ap (place_at_rank first ns ss) (sym none)))
 
 -- ---- the one lane of a layout with one axis
--- a bound of a number that holds where the number isn't 0 holds
+-- a number is below a bound that is greater than 0, if it is below the bound wherever it isn't 0
 pub below_if_some : (n bound : ℕ) → 0 < bound → (0 < n → n < bound) → n < bound
 below_if_some zero bound some below = some
 below_if_some (suc n) bound some below = below (omega arith)

@@ -79,10 +79,10 @@ where
     [usize; 2]: NdIndex<D>,
 {
     if divides {
-        return quotients_are_right(alloc, &table.view(), row, wanted.0, wanted.5)
+        return quotients_are_right(alloc, table, row, wanted.0, wanted.5)
             && quotients_are_left(table, row, wanted.0, wanted.5);
     }
-    calls_give(alloc, &table.view(), row, wanted) && writes_leave(table, row, wanted)
+    calls_give(alloc, table, row, wanted) && writes_leave(table, row, wanted)
 }
 
 /// Returns whether a table and the row 1 2 3 give what they should.

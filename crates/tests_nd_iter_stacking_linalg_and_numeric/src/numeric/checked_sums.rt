@@ -28,7 +28,7 @@ const TABLES: [((usize, usize), [isize; 2], &[u64], Option<u64>); 6] = [
 fn sums_that_fit_or_not(alloc: Global) -> bool {
     for (shape, strides, items, wanted) in &TABLES {
         let right = match table_by(alloc, *shape, *strides, *items) {
-            Some(table) => adds_up_to(&table.view(), *wanted),
+            Some(table) => adds_up_to(&table, *wanted),
             None => false,
         };
         if !right {

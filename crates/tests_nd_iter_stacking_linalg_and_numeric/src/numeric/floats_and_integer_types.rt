@@ -2,9 +2,9 @@
 
 use crate::numeric::tables_in_three_layouts::{float_list, floats, lists_floats, pair};
 use crate::numeric::totals::totals;
-use nd_array_core::{Array1, ArrayBase, ArrayView2, Data, DataMut};
+use nd_array_core::{Array1, ArrayBase, Data, DataMut};
 use nd_numeric::{Reorderable, add_scalar, mul_assign_scalar, product, sum, var};
-use nd_shape_and_slice::Ix1;
+use nd_shape_and_slice::{Dimension, Ix1};
 use std::alloc::Global;
 use uses_nd_iter_stacking_and_numeric::sums_squares_and_scaled_add::total_in_order;
 
@@ -49,10 +49,15 @@ fn list(alloc: Global) -> bool {
     }
 }
 
-/// Returns whether the sum of a table is this one, by `sum` and by `total_in_order`, and its mean is this one.
-fn adds_up_to(table: &ArrayView2<'_, f64>, wanted: f64, wanted_mean: f64) -> bool {
-    let (sum, _product, mean, _least, _greatest) = totals(table);
-    sum == wanted && total_in_order(table) == wanted && is_number(mean, wanted_mean)
+/// Returns whether the sum of an array is this one, by `sum` and by `total_in_order`, and its mean is this one. This is for
+/// all storages and numbers of axes, since a call at known types takes longer to prove.
+fn adds_up_to<S: Data<Elem = f64>, D: Dimension>(
+    array: &ArrayBase<S, D>,
+    wanted: f64,
+    wanted_mean: f64,
+) -> bool {
+    let (sum, _product, mean, _least, _greatest) = totals(array);
+    sum == wanted && total_in_order(array) == wanted && is_number(mean, wanted_mean)
 }
 
 /// Sums of floats go in row-major order. In that order these numbers have the sum 1, and those of the transpose the sum 3,

@@ -1,11 +1,11 @@
 //! The indexes of the least and the greatest element, and the least and the greatest element of each lane. Each call
 //! gets its storage here.
 
-use crate::numeric::tables_in_three_layouts::{STRIDES, float_list};
-use crate::numeric::totals::totals;
-use nd_array_core::{Array1, ArrayView2};
-use nd_numeric::{argmax, argmin, max_axis, min_axis};
-use nd_shape_and_slice::{Axis, NoMemory};
+use crate::numeric::tables_in_three_layouts::{STRIDES, float_list, lists};
+use crate::numeric::totals::{ends_at, totals};
+use nd_array_core::{ArrayBase, Data};
+use nd_numeric::{max_axis, min_axis};
+use nd_shape_and_slice::{Axis, Ix2, RemoveAxis};
 use nd_test_arrays::{table, table_by};
 use std::alloc::Global;
 
@@ -25,14 +25,6 @@ const FLOATS: [(&[f64], Option<usize>, Option<usize>); 7] = [
     (&[f64::NAN, f64::NAN], Some(0), Some(0)),
 ];
 
-/// Returns whether a list was made, and has these elements.
-fn are_listed(made: &Result<Array1<Option<u64>>, NoMemory>, wanted: &[Option<u64>]) -> bool {
-    match made {
-        Ok(list) => list.as_slice() == Some(wanted),
-        Err(_) => false,
-    }
-}
-
 /// The least elements of the columns and the greatest of the rows of a table, and the indexes of the least and of the
 /// greatest of all.
 type Ends = (
@@ -42,12 +34,26 @@ type Ends = (
     Option<(usize, usize)>,
 );
 
+/// Returns whether the least elements of the columns and the greatest of the rows of a table are these. This is for all
+/// storages and numbers of axes, since a call at known types takes longer to prove.
+fn lane_ends_are<S: Data<Elem = u64>, D: RemoveAxis>(
+    alloc: Global,
+    table: &ArrayBase<S, D>,
+    wanted: &Ends,
+) -> bool {
+    1 < table.ndim()
+        && lists(min_axis(alloc, table, Axis(0)), wanted.0)
+        && lists(max_axis(alloc, table, Axis(1)), wanted.1)
+}
+
 /// Returns whether the least and greatest elements of a table, and their indexes, are these.
-fn ends_are_right(alloc: Global, table: &ArrayView2<'_, u64>, wanted: &Ends) -> bool {
-    are_listed(&min_axis(alloc, table, Axis(0)), wanted.0)
-        && are_listed(&max_axis(alloc, table, Axis(1)), wanted.1)
-        && argmin(table) == wanted.2
-        && argmax(table) == wanted.3
+fn ends_are_right<S: Data<Elem = u64>>(
+    alloc: Global,
+    table: &ArrayBase<S, Ix2>,
+    wanted: &Ends,
+) -> bool {
+    let (least, greatest) = ends_at(table);
+    lane_ends_are(alloc, table, wanted) && least == wanted.2 && greatest == wanted.3
 }
 
 // What the table 5 1 9 / 9 3 1 is stored as, in each layout.
@@ -69,7 +75,7 @@ const OF_NOTHING: Ends = (&[None, None], &[], None, None);
 fn ends_in_each_layout(alloc: Global) -> bool {
     for k in 0..3usize {
         let right = match table_by(alloc, (2, 3), STRIDES[k], STORED[k]) {
-            Some(table) => ends_are_right(alloc, &table.view(), &ENDS),
+            Some(table) => ends_are_right(alloc, &table, &ENDS),
             None => false,
         };
         if !right {
@@ -77,7 +83,7 @@ fn ends_in_each_layout(alloc: Global) -> bool {
         }
     }
     match table(alloc, (0, 2), &[]) {
-        Some(none) => ends_are_right(alloc, &none.view(), &OF_NOTHING),
+        Some(none) => ends_are_right(alloc, &none, &OF_NOTHING),
         None => false,
     }
 }
@@ -93,8 +99,9 @@ fn list_ends_are(
         return false;
     };
     let (_sum, _product, _mean, lowest, highest) = totals(&list);
-    argmin(&list) == least
-        && argmax(&list) == greatest
+    let (lowest_at, highest_at) = ends_at(&list);
+    lowest_at == least
+        && highest_at == greatest
         && is_at(items, least, lowest)
         && is_at(items, greatest, highest)
 }

@@ -2,7 +2,7 @@
 //! the numbers of the grid and of the points.
 
 use crate::numeric::tables_in_three_layouts::{float_list, floats, floats_by, has, lists_floats};
-use nd_array_core::{Array1, Array2, ArrayBase, ArrayView2, Data, DataMut};
+use nd_array_core::{Array1, Array2, ArrayBase, Data, DataMut};
 use nd_shape_and_slice::{Dimension, Ix2};
 use std::alloc::Global;
 use uses_nd_iter_stacking_and_numeric::distances_and_window_means::{
@@ -153,7 +153,7 @@ const HEATED: [[f64; 16]; 2] = [
 ];
 
 /// Returns whether a grid is this one after a step of heat diffusion with the rate 0.25.
-fn becomes(alloc: Global, grid: &ArrayView2<'_, f64>, wanted: &[f64]) -> bool {
+fn becomes<S: Data<Elem = f64>>(alloc: Global, grid: &ArrayBase<S, Ix2>, wanted: &[f64]) -> bool {
     match heat_step(alloc, grid, 0.25) {
         Ok(next) => has(&next, wanted),
         Err(_) => false,

@@ -1,7 +1,7 @@
 //! Operators on tables in row-major order, in column-major order, with steps between the elements, and without rows.
 //! Each call gets its storage here.
 
-use crate::numeric::tables_in_three_layouts::{ELEVEN_ON, STRIDES, float_list, made_shows};
+use crate::numeric::tables_in_three_layouts::{ELEVEN_ON, STRIDES, float_list, gives, meets};
 use nd_array_core::{Array, Array1, Array2, ArrayBase, Data, DataMut};
 use nd_shape_and_slice::{Dimension, NdIndex};
 use nd_test_arrays::{is_table, list, shows, table, table_by};
@@ -13,9 +13,14 @@ const MADE: [u64; 6] = [162, 112, 48, 152, 92, 18];
 /// What operators in place leave of 11 to 16 with the row 1 2 3.
 const LEFT: [u64; 6] = [38, 88, 152, 48, 108, 182];
 
-/// Returns whether a row can be broadcast to a table, and the operators by value on both give these numbers. Like the
-/// other functions here over any storage and number of axes, it would take longer to prove at known types.
-fn gives<S: DataMut<Elem = u64> + Drop, D: Dimension, Z: Data<Elem = u64>, E: Dimension>(
+/// Returns what operators by value make of a table and single numbers. Like the other functions here over any storage and
+/// number of axes, it would take longer to prove at known types.
+fn with_numbers<S: DataMut<Elem = u64>, D: Dimension>(table: ArrayBase<S, D>) -> ArrayBase<S, D> {
+    -(((table + 1) * 10 - 4) / 3) + 200
+}
+
+/// Returns whether a row can be broadcast to a table, and the operators by value on both give these numbers.
+fn values_give<S: DataMut<Elem = u64> + Drop, D: Dimension, Z: Data<Elem = u64>, E: Dimension>(
     table: ArrayBase<S, D>,
     row: &ArrayBase<Z, E>,
     shape: [usize; 2],
@@ -24,12 +29,19 @@ fn gives<S: DataMut<Elem = u64> + Drop, D: Dimension, Z: Data<Elem = u64>, E: Di
 where
     [usize; 2]: NdIndex<D>,
 {
-    if row.broadcast(table.raw_dim()).is_none() {
+    if !meets(&table, row) {
         return false;
     }
-    let first = (table + row) * row - row;
-    let second = -(((first + 1) * 10 - 4) / 3) + 200;
-    shows(&second, shape, wanted)
+    let made = with_numbers((table + row) * row - row);
+    shows(&made, shape, wanted)
+}
+
+/// Changes a table by operators in place, with single numbers.
+fn change_by_numbers<S: DataMut<Elem = u64>, D: Dimension>(table: &mut ArrayBase<S, D>) {
+    *table += 1;
+    *table *= 10;
+    *table -= 4;
+    *table /= 3;
 }
 
 /// Returns whether a row can be broadcast to a table, and the operators in place on both leave these numbers.
@@ -42,16 +54,13 @@ fn leaves<S: DataMut<Elem = u64>, D: Dimension, Z: Data<Elem = u64>, E: Dimensio
 where
     [usize; 2]: NdIndex<D>,
 {
-    if row.broadcast(table.raw_dim()).is_none() {
+    if !meets(table, row) {
         return false;
     }
     *table += row;
     *table *= row;
     *table -= row;
-    *table += 1;
-    *table *= 10;
-    *table -= 4;
-    *table /= 3;
+    change_by_numbers(table);
     shows(table, shape, wanted)
 }
 
@@ -65,7 +74,7 @@ fn gives_in_place(
     match made {
         Some(made) => {
             let mut table = made;
-            gives(table.view_mut(), row, shape, wanted) && is_table(&table, shape, wanted)
+            values_give(table.view_mut(), row, shape, wanted) && is_table(&table, shape, wanted)
         }
         None => false,
     }
@@ -93,10 +102,11 @@ fn rows_and_columns(alloc: Global) -> bool {
     };
     for k in 0..3usize {
         let one = table_by(alloc, (2, 3), STRIDES[k], ELEVEN_ON[k]);
+        if !gives_in_place(one, &row, [2, 3], &MADE) {
+            return false;
+        }
         let other = table_by(alloc, (2, 3), STRIDES[k], ELEVEN_ON[k]);
-        if !gives_in_place(one, &row, [2, 3], &MADE)
-            || !leaves_in_place(other, &row, [2, 3], &LEFT)
-        {
+        if !leaves_in_place(other, &row, [2, 3], &LEFT) {
             return false;
         }
     }
@@ -128,12 +138,10 @@ fn gives_by_reference<D: Dimension, Z: Data<Elem = u64>, E: Dimension>(
 where
     [usize; 2]: NdIndex<D>,
 {
-    if other.broadcast(one.raw_dim()).is_none() {
-        return false;
-    }
-    made_shows(&(one + other), [2, 2], &[3, 4, 5, 1])
-        && made_shows(&(one - other), [2, 2], &[u64::MAX, 0, 1, u64::MAX - 2])
-        && made_shows(&(one * other), [2, 2], &[2, 4, 6, u64::MAX - 1])
+    meets(one, other)
+        && gives(one + other, [2, 2], &[3, 4, 5, 1])
+        && gives(one - other, [2, 2], &[u64::MAX, 0, 1, u64::MAX - 2])
+        && gives(one * other, [2, 2], &[2, 4, 6, u64::MAX - 1])
 }
 
 fn by_reference(alloc: Global) -> bool {
@@ -146,24 +154,37 @@ fn by_reference(alloc: Global) -> bool {
     }
 }
 
-// Returns whether a list halved by reference has this second element, and once it is halved, reduced by 0.5 and negated
-// the third element 2, and the second one -0.375 after another halving.
-fn is_halved<D: Dimension, Z: Data<Elem = f64>, E: Dimension>(
-    list: Array<f64, D>,
+/// Returns the second element of a list halved by reference.
+fn half<D: Dimension, Z: Data<Elem = f64>, E: Dimension>(
+    list: &Array<f64, D>,
+    two: &ArrayBase<Z, E>,
+) -> Option<f64>
+where
+    usize: NdIndex<D>,
+{
+    if !meets(list, two) {
+        return None;
+    }
+    match list / two {
+        Ok(quotients) => quotients.get(1).copied(),
+        Err(_) => None,
+    }
+}
+
+/// Returns whether a list that is halved, reduced by 0.5 and negated has the third element 2, and the second one -0.375
+/// after another halving.
+fn is_halved<S: DataMut<Elem = f64> + Drop, D: Dimension, Z: Data<Elem = f64>, E: Dimension>(
+    list: ArrayBase<S, D>,
     two: &ArrayBase<Z, E>,
 ) -> bool
 where
     usize: NdIndex<D>,
 {
-    if two.broadcast(list.raw_dim()).is_none() {
+    if !meets(&list, two) {
         return false;
     }
-    let half = match &list / two {
-        Ok(quotients) => quotients.get(1).copied(),
-        Err(_) => None,
-    };
     let mut moved = -(list / two - 0.5);
-    if half != Some(1.25) || moved.get(2).copied() != Some(2.0) {
+    if moved.get(2).copied() != Some(2.0) {
         return false;
     }
     moved /= two;
@@ -175,7 +196,7 @@ fn floats(alloc: Global) -> bool {
         return false;
     };
     match float_list(alloc, &[2.0]) {
-        Some(two) => is_halved(list, &two),
+        Some(two) => half(&list, &two) == Some(1.25) && is_halved(list, &two),
         None => false,
     }
 }

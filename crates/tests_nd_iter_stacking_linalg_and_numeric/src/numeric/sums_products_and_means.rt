@@ -1,87 +1,98 @@
 //! Sums, products, means, and least and greatest elements of small tables, in three layouts. Each call gets its storage
 //! here.
 
-use crate::numeric::tables_in_three_layouts::{ONE_TO_SIX, STRIDES, is_made};
-use crate::numeric::totals::totals;
-use nd_array_core::{Array1, Array3, ArrayView2, ArrayView3};
-use nd_numeric::{argmax, cumsum, mean_axis, outer, product_axis, sum_axis, trace};
-use nd_shape_and_slice::{Axis, NoMemory};
-use nd_test_arrays::{is_list, made, table, table_by};
+use crate::numeric::tables_in_three_layouts::{ONE_TO_SIX, STRIDES, gives, lists, lists_if_any};
+use crate::numeric::totals::{ends_at, totals};
+use nd_array_core::{Array1, Array3, ArrayBase, Data};
+use nd_numeric::{cumsum, mean_axis, outer, product_axis, sum_axis, trace};
+use nd_shape_and_slice::{Axis, Dimension, Ix2, Ix3, NdIndex, RemoveAxis};
+use nd_test_arrays::{made, table, table_by};
 use std::alloc::Global;
 
-/// Returns whether a list was made, and has these numbers.
-fn is_listed(made: &Result<Array1<u64>, NoMemory>, wanted: &[u64]) -> bool {
-    match made {
-        Ok(list) => is_list(list, wanted),
-        Err(_) => false,
-    }
-}
-
-/// Returns whether there are means, and they are these; or there are none, if `wanted` is `None`.
-fn are_means(made: &Option<Result<Array1<u64>, NoMemory>>, wanted: Option<&[u64]>) -> bool {
-    match made {
-        Some(means) => match wanted {
-            Some(wanted) => is_listed(means, wanted),
-            None => false,
-        },
-        None => wanted.is_none(),
-    }
-}
-
-/// The sums of the columns and of the rows of a table, the products of the columns, and the means of the columns and of
-/// the rows.
+/// The number of an axis, and the sums, the products and the means of its lanes.
 type Lanes = (
+    usize,
     &'static [u64],
     &'static [u64],
-    &'static [u64],
-    Option<&'static [u64]>,
     Option<&'static [u64]>,
 );
 
-/// Returns whether the lanes of a table add up to these.
-fn lanes_add_up(alloc: Global, table: &ArrayView2<'_, u64>, wanted: &Lanes) -> bool {
-    is_listed(&sum_axis(alloc, table, Axis(0)), wanted.0)
-        && is_listed(&sum_axis(alloc, table, Axis(1)), wanted.1)
-        && is_listed(&product_axis(alloc, table, Axis(0)), wanted.2)
-        && are_means(&mean_axis(alloc, table, Axis(0)), wanted.3)
-        && are_means(&mean_axis(alloc, table, Axis(1)), wanted.4)
+/// Returns whether the lanes of an axis add up to these. Like the other functions here over any storage and number of
+/// axes, it would take longer to prove at known types.
+fn lanes_add_up<S: Data<Elem = u64>, D: RemoveAxis>(
+    alloc: Global,
+    array: &ArrayBase<S, D>,
+    wanted: &Lanes,
+) -> bool {
+    if wanted.0 >= array.ndim() {
+        return false;
+    }
+    lists(sum_axis(alloc, array, Axis(wanted.0)), wanted.1)
+        && lists(product_axis(alloc, array, Axis(wanted.0)), wanted.2)
+        && lists_if_any(mean_axis(alloc, array, Axis(wanted.0)), wanted.3)
 }
 
-/// The sum, the product and the trace of a table, and its mean, its least and its greatest element.
-type All = (u64, u64, u64, Option<u64>, Option<u64>, Option<u64>);
+/// The sum and the product of an array, its mean, its least and its greatest element.
+type All = (u64, u64, Option<u64>, Option<u64>, Option<u64>);
 
-/// Returns whether all elements of a table add up to these.
-fn all_add_up(table: &ArrayView2<'_, u64>, wanted: &All) -> bool {
-    let (sum, product, mean, least, greatest) = totals(table);
+/// Returns whether all elements of an array add up to these.
+fn all_add_up<S: Data<Elem = u64>, D: Dimension>(array: &ArrayBase<S, D>, wanted: &All) -> bool {
+    let (sum, product, mean, least, greatest) = totals(array);
     sum == wanted.0
         && product == wanted.1
-        && trace(table) == wanted.2
-        && mean == wanted.3
-        && least == wanted.4
-        && greatest == wanted.5
+        && mean == wanted.2
+        && least == wanted.3
+        && greatest == wanted.4
 }
 
-const LANES: Lanes = (
-    &[5, 7, 9],
-    &[6, 15],
-    &[4, 10, 18],
-    Some(&[2, 3, 4]),
-    Some(&[2, 5]),
+/// The lengths of a table, the number of an axis, and the running sums along it.
+type Running = ([usize; 2], usize, &'static [u64]);
+
+/// Returns whether these are the running sums along an axis.
+fn sums_run<S: Data<Elem = u64>, D: Dimension>(
+    alloc: Global,
+    table: &ArrayBase<S, D>,
+    wanted: &Running,
+) -> bool
+where
+    [usize; 2]: NdIndex<D>,
+{
+    wanted.1 < table.ndim() && gives(cumsum(alloc, table, Axis(wanted.1)), wanted.0, wanted.2)
+}
+
+/// The numbers of the columns and of the rows of a table, those of all elements, its trace, and its running sums.
+type Wanted = (Lanes, Lanes, All, u64, Running);
+
+/// Returns whether a table adds up to these numbers.
+fn adds_up<S: Data<Elem = u64>>(alloc: Global, table: &ArrayBase<S, Ix2>, wanted: &Wanted) -> bool {
+    lanes_add_up(alloc, table, &wanted.0)
+        && lanes_add_up(alloc, table, &wanted.1)
+        && all_add_up(table, &wanted.2)
+        && trace(table) == wanted.3
+        && sums_run(alloc, table, &wanted.4)
+}
+
+/// The numbers of 1 2 3 / 4 5 6.
+const OF_TWO_ROWS: Wanted = (
+    (0, &[5, 7, 9], &[4, 10, 18], Some(&[2, 3, 4])),
+    (1, &[6, 15], &[6, 120], Some(&[2, 5])),
+    (21, 720, Some(3), Some(1), Some(6)),
+    6,
+    ([2, 3], 1, &[1, 3, 6, 4, 9, 15]),
 );
 
-const ALL: All = (21, 720, 6, Some(3), Some(1), Some(6));
-
-/// Returns whether all these numbers of a table are those of 1 2 3 / 4 5 6.
-fn adds_up(alloc: Global, table: &ArrayView2<'_, u64>) -> bool {
-    lanes_add_up(alloc, table, &LANES)
-        && all_add_up(table, &ALL)
-        && is_made(&cumsum(alloc, table, Axis(1)), [2, 3], &[1, 3, 6, 4, 9, 15])
-}
+const OF_NO_ROWS: Wanted = (
+    (0, &[0, 0], &[1, 1], None),
+    (1, &[], &[], Some(&[])),
+    (0, 1, None, None, None),
+    0,
+    ([0, 2], 0, &[]),
+);
 
 fn in_each_layout(alloc: Global) -> bool {
     for k in 0..3usize {
         let right = match table_by(alloc, (2, 3), STRIDES[k], ONE_TO_SIX[k]) {
-            Some(table) => adds_up(alloc, &table.view()),
+            Some(table) => adds_up(alloc, &table, &OF_TWO_ROWS),
             None => false,
         };
         if !right {
@@ -91,36 +102,47 @@ fn in_each_layout(alloc: Global) -> bool {
     true
 }
 
-const NO_LANES: Lanes = (&[0, 0], &[], &[1, 1], None, Some(&[]));
-
-const NONE: All = (0, 1, 0, None, None, None);
-
 fn axes_of_nothing(alloc: Global) -> bool {
-    let Some(none) = table(alloc, (0, 2), &[]) else {
-        return false;
-    };
-    let table = none.view();
-    lanes_add_up(alloc, &table, &NO_LANES)
-        && all_add_up(&table, &NONE)
-        && is_made(&cumsum(alloc, &table, Axis(0)), [0, 2], &[])
+    match table(alloc, (0, 2), &[]) {
+        Some(none) => adds_up(alloc, &none, &OF_NO_ROWS),
+        None => false,
+    }
 }
 
-/// Returns whether an array of three axes with the elements 1 to 8 has these sums along the second axis, and the sum, the
-/// product and the greatest element at the last index.
-fn sums_of_three_axes(alloc: Global, array: &ArrayView3<'_, u64>, wanted: &[u64]) -> bool {
-    let (sum, product, _mean, _least, _greatest) = totals(array);
-    is_made(&sum_axis(alloc, array, Axis(1)), [2, 2], wanted)
-        && sum == 36
-        && product == 40320
-        && argmax(array) == Some((1, 1, 1))
+/// The numbers of 1 to 8.
+const OF_EIGHT: All = (36, 40320, Some(4), Some(1), Some(8));
+
+/// Returns whether an array has these sums along the second axis, and they are a table of two rows and two columns.
+fn middle_sums_are<S: Data<Elem = u64>, D: RemoveAxis>(
+    alloc: Global,
+    array: &ArrayBase<S, D>,
+    wanted: &[u64],
+) -> bool
+where
+    [usize; 2]: NdIndex<D::Smaller>,
+{
+    1 < array.ndim() && gives(sum_axis(alloc, array, Axis(1)), [2, 2], wanted)
+}
+
+/// Returns whether an array of three axes with the elements 1 to 8 has these sums along the second axis, and the other
+/// numbers of these elements, and the greatest element at the last index.
+fn three_axes_add_up<S: Data<Elem = u64>>(
+    alloc: Global,
+    array: &ArrayBase<S, Ix3>,
+    wanted: &[u64],
+) -> bool {
+    let (_least, greatest) = ends_at(array);
+    middle_sums_are(alloc, array, wanted)
+        && all_add_up(array, &OF_EIGHT)
+        && greatest == Some((1, 1, 1))
 }
 
 fn three_axes(alloc: Global) -> bool {
     let array: Option<Array3<u64>> = made(alloc, (2, 2, 2), &[1, 2, 3, 4, 5, 6, 7, 8]);
     match array {
         Some(array) => {
-            sums_of_three_axes(alloc, &array.view(), &[4, 6, 12, 14])
-                && sums_of_three_axes(alloc, &array.t(), &[4, 12, 6, 14])
+            three_axes_add_up(alloc, &array.view(), &[4, 6, 12, 14])
+                && three_axes_add_up(alloc, &array.t(), &[4, 12, 6, 14])
         }
         None => false,
     }
@@ -132,11 +154,11 @@ fn products_of_vectors(alloc: Global) -> bool {
     let none: Option<Array1<u64>> = made(alloc, 0, &[]);
     match (one, other, none) {
         (Some(one), Some(other), Some(none)) => {
-            is_made(
-                &outer(alloc, &one, &other),
+            gives(
+                outer(alloc, &one, &other),
                 [2, 3],
                 &[2, 20, 200, 3, 30, 300],
-            ) && is_made(&outer(alloc, &none, &other), [0, 3], &[])
+            ) && gives(outer(alloc, &none, &other), [0, 3], &[])
         }
         _ => false,
     }

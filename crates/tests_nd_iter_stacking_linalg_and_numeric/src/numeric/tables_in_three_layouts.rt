@@ -5,7 +5,7 @@ ghost use Rattle.nd_array_core.specs.arithmetic.ElementwiseArithmetic.{CanMeet};
 
 use nd_array_core::{Array, Array1, Array2, ArrayBase, Data};
 use nd_shape_and_slice::{Dimension, IntoStrideShape, Ix1, Ix2, NdIndex, NoMemory, ShapeBuilder};
-use nd_test_arrays::{is_table, shows};
+use nd_test_arrays::shows;
 use std::alloc::Global;
 
 /// The strides of a table of two rows and three columns: in row-major order, in column-major order, and with steps between
@@ -26,31 +26,8 @@ pub const ELEVEN_ON: [&[u64]; 3] = [
     &[13, 9, 12, 9, 11, 9, 16, 9, 15, 9, 14],
 ];
 
-/// Returns whether a table was made, and has this shape and these numbers row by row.
-pub fn is_made(made: &Result<Array2<u64>, NoMemory>, shape: [usize; 2], wanted: &[u64]) -> bool {
-    match made {
-        Ok(table) => is_table(table, shape, wanted),
-        Err(_) => false,
-    }
-}
-
 /// Returns whether an array was made, and has this shape and these numbers row by row. This is for functions over any
-/// number of axes.
-pub fn made_shows<D: Dimension>(
-    made: &Result<Array<u64, D>, NoMemory>,
-    shape: [usize; 2],
-    wanted: &[u64],
-) -> bool
-where
-    [usize; 2]: NdIndex<D>,
-{
-    match made {
-        Ok(array) => shows(array, shape, wanted),
-        Err(_) => false,
-    }
-}
-
-/// Does what `made_shows` does, and takes the array by value, so that the caller has nothing to drop.
+/// number of axes. It takes the array by value, so that the caller has nothing to drop.
 pub fn gives<D: Dimension>(
     made: Result<Array<u64, D>, NoMemory>,
     shape: [usize; 2],
@@ -62,6 +39,32 @@ where
     match made {
         Ok(array) => shows(&array, shape, wanted),
         Err(_) => false,
+    }
+}
+
+/// Returns whether an array was made, lies in row-major order, and has these elements. Like `gives`, it takes the array by
+/// value.
+pub fn lists<A: PartialEq + Drop, D: Dimension>(
+    made: Result<Array<A, D>, NoMemory>,
+    wanted: &[A],
+) -> bool {
+    match made {
+        Ok(array) => array.as_slice() == Some(wanted),
+        Err(_) => false,
+    }
+}
+
+/// Returns whether there is a result, and `lists` holds of it; or there is none, if `wanted` is `None`.
+pub fn lists_if_any<A: PartialEq + Drop, D: Dimension>(
+    made: Option<Result<Array<A, D>, NoMemory>>,
+    wanted: Option<&[A]>,
+) -> bool {
+    match made {
+        Some(made) => match wanted {
+            Some(wanted) => lists(made, wanted),
+            None => false,
+        },
+        None => wanted.is_none(),
     }
 }
 

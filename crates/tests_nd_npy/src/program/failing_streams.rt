@@ -79,37 +79,30 @@ fn words_that_are_no_steps(rt: HostRuntime) {
     assert!(rt; stops(rt.alloc(), b"turn", 0, 1, line));
 }
 
+/// Returns the status with which the program ends when it reads the file and writes to these streams.
+fn ends<W: Write, E: Write>(
+    alloc: Global,
+    words: &[u8],
+    output: &mut Watched<W>,
+    errors: &mut Watched<E>,
+) -> u8 {
+    let mut input = Watched::new(FILE);
+    drive(alloc, Wanted::File, words, &mut input, output, errors)
+}
+
 #[test]
 fn a_write_that_fails(rt: HostRuntime) {
-    let mut input = Watched::new(FILE);
     let mut output = Watched::new(Full);
     let mut errors = Watched::new(Vec::new(rt.alloc()));
-    let status = drive(
-        rt.alloc(),
-        Wanted::File,
-        b"",
-        &mut input,
-        &mut output,
-        &mut errors,
-    );
-    assert!(rt; status == 3);
+    assert!(rt; ends(rt.alloc(), b"", &mut output, &mut errors) == 3);
     assert!(rt; errors.into_inner().as_slice() == b"nd_npy_program: a write failed\n".as_slice());
 }
 
 #[test]
 fn a_line_that_fails(rt: HostRuntime) {
-    let mut input = Watched::new(FILE);
     let mut output = Watched::new(Vec::new(rt.alloc()));
     let mut errors = Watched::new(Full);
-    let status = drive(
-        rt.alloc(),
-        Wanted::File,
-        b"turn",
-        &mut input,
-        &mut output,
-        &mut errors,
-    );
-    assert!(rt; status == 3);
+    assert!(rt; ends(rt.alloc(), b"turn", &mut output, &mut errors) == 3);
     assert!(rt; output.into_inner().is_empty());
 }
 

@@ -5,21 +5,49 @@ use nd_npy_run::program::drive;
 use nd_npy_run::wanted_outputs::wanted_in;
 use std::alloc::Global;
 
-/// Returns whether the program ends with this status, and writes this output and these errors.
-pub(crate) fn told(
-    alloc: Global,
-    words: &[u8],
-    file: &[u8],
-    status: u8,
-    written: &[u8],
-    line: &[u8],
-) -> bool {
+/// Returns whether the program ends with this status, and writes `expected` and nothing else: to the output if the status
+/// is 0, and otherwise to the errors.
+fn is_told(alloc: Global, words: &[u8], file: &[u8], status: u8, expected: &[u8]) -> bool {
     let mut input = Watched::new(file);
     let mut output = Watched::new(Vec::new(alloc));
     let mut errors = Watched::new(Vec::new(alloc));
     let (wanted, steps) = wanted_in(words);
     let ended = drive(alloc, wanted, steps, &mut input, &mut output, &mut errors);
+    let (written, line): (&[u8], &[u8]) = if status == 0 {
+        (expected, b"")
+    } else {
+        (b"", expected)
+    };
     ended == status
         && output.into_inner().as_slice() == written
         && errors.into_inner().as_slice() == line
+}
+
+/// Returns what stands in front of the first `mark` in `bytes`, and what stands behind it.
+fn around<'a>(bytes: &'a [u8], mark: &[u8]) -> Option<(&'a [u8], &'a [u8])> {
+    for at in 0..bytes.len() {
+        let (front, rest) = bytes.split_at(at);
+        if let Some(behind) = rest.strip_prefix(mark) {
+            return Some((front, behind));
+        }
+    }
+    None
+}
+
+/// Returns whether the program ends with this status for each row, and writes what the row expects and nothing else. A row
+/// has the words, a line feed, the file that is read, a line feed, `=> `, and what is written: to the output if the status
+/// is 0, and otherwise to the errors.
+pub(crate) fn are_told(alloc: Global, status: u8, table: &[&[u8]]) -> bool {
+    for row in table {
+        let Some((asked, expected)) = around(row, b"\n=> ") else {
+            return false;
+        };
+        let Some((words, file)) = around(asked, b"\n") else {
+            return false;
+        };
+        if !is_told(alloc, words, file, status, expected) {
+            return false;
+        }
+    }
+    true
 }

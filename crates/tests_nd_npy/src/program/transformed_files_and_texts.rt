@@ -1,188 +1,125 @@
 //! Files that numpy wrote, and the files of the arrays after steps, as numpy writes them.
 
-use crate::program::output_checks::told;
+use crate::program::output_checks::are_told;
 
-/// The words, the file that is read, and the file that is written.
-type Row = (&'static [u8], &'static [u8], &'static [u8]);
-
-const TURNED: [Row; 7] = [
+const TURNED: [&[u8]; 7] = [
     // numpy.arange(1, 7, dtype="<i2").reshape(2, 3), and a.T
-    (
-        b"reverse",
-        b"\x93NUMPY\x01\x00v\x00{'descr': '<i2', 'fortran_order': False, 'shape': (2, 3), }                                                          \n\x01\x00\x02\x00\x03\x00\x04\x00\x05\x00\x06\x00",
-        b"\x93NUMPY\x01\x00v\x00{'descr': '<i2', 'fortran_order': False, 'shape': (3, 2), }                                                          \n\x01\x00\x04\x00\x02\x00\x05\x00\x03\x00\x06\x00",
-    ),
+    b"reverse\n\
+      \x93NUMPY\x01\x00v\x00{'descr': '<i2', 'fortran_order': False, 'shape': (2, 3), }                                                          \n\x01\x00\x02\x00\x03\x00\x04\x00\x05\x00\x06\x00\n\
+      => \x93NUMPY\x01\x00v\x00{'descr': '<i2', 'fortran_order': False, 'shape': (3, 2), }                                                          \n\x01\x00\x04\x00\x02\x00\x05\x00\x03\x00\x06\x00",
     // Fortran's order becomes C's
-    (
-        b"",
-        b"\x93NUMPY\x01\x00v\x00{'descr': '>f4', 'fortran_order': True, 'shape': (2, 2), }                                                           \n?\xc0\x00\x00@`\x00\x00@ \x00\x00@\x90\x00\x00",
-        b"\x93NUMPY\x01\x00v\x00{'descr': '>f4', 'fortran_order': False, 'shape': (2, 2), }                                                          \n?\xc0\x00\x00@ \x00\x00@`\x00\x00@\x90\x00\x00",
-    ),
+    b"\n\
+      \x93NUMPY\x01\x00v\x00{'descr': '>f4', 'fortran_order': True, 'shape': (2, 2), }                                                           \n?\xc0\x00\x00@`\x00\x00@ \x00\x00@\x90\x00\x00\n\
+      => \x93NUMPY\x01\x00v\x00{'descr': '>f4', 'fortran_order': False, 'shape': (2, 2), }                                                          \n?\xc0\x00\x00@ \x00\x00@`\x00\x00@\x90\x00\x00",
     // version 2.0, and c[::-1][:2]
-    (
-        b"invert 0 cut 0 0 2 1",
-        b"\x93NUMPY\x02\x00t\x00\x00\x00{'descr': '|b1', 'fortran_order': False, 'shape': (3,), }                                                          \n\x01\x00\x01",
-        b"\x93NUMPY\x01\x00v\x00{'descr': '|b1', 'fortran_order': False, 'shape': (2,), }                                                            \n\x01\x00",
-    ),
+    b"invert 0 cut 0 0 2 1\n\
+      \x93NUMPY\x02\x00t\x00\x00\x00{'descr': '|b1', 'fortran_order': False, 'shape': (3,), }                                                          \n\x01\x00\x01\n\
+      => \x93NUMPY\x01\x00v\x00{'descr': '|b1', 'fortran_order': False, 'shape': (2,), }                                                            \n\x01\x00",
     // an array without axes
-    (
-        b"insert 0 broadcast 1 2",
-        b"\x93NUMPY\x01\x00v\x00{'descr': '<c16', 'fortran_order': False, 'shape': (), }                                                             \n\x00\x00\x00\x00\x00\x00\x08@\x00\x00\x00\x00\x00\x00\x10@",
-        b"\x93NUMPY\x01\x00v\x00{'descr': '<c16', 'fortran_order': False, 'shape': (2,), }                                                           \n\x00\x00\x00\x00\x00\x00\x08@\x00\x00\x00\x00\x00\x00\x10@\x00\x00\x00\x00\x00\x00\x08@\x00\x00\x00\x00\x00\x00\x10@",
-    ),
+    b"insert 0 broadcast 1 2\n\
+      \x93NUMPY\x01\x00v\x00{'descr': '<c16', 'fortran_order': False, 'shape': (), }                                                             \n\x00\x00\x00\x00\x00\x00\x08@\x00\x00\x00\x00\x00\x00\x10@\n\
+      => \x93NUMPY\x01\x00v\x00{'descr': '<c16', 'fortran_order': False, 'shape': (2,), }                                                           \n\x00\x00\x00\x00\x00\x00\x08@\x00\x00\x00\x00\x00\x00\x10@\x00\x00\x00\x00\x00\x00\x08@\x00\x00\x00\x00\x00\x00\x10@",
     // numpy.take(a, [2, 0, 2], 1) of the first array
-    (
-        b"select 1 3 2 0 2",
-        b"\x93NUMPY\x01\x00v\x00{'descr': '<i2', 'fortran_order': False, 'shape': (2, 3), }                                                          \n\x01\x00\x02\x00\x03\x00\x04\x00\x05\x00\x06\x00",
-        b"\x93NUMPY\x01\x00v\x00{'descr': '<i2', 'fortran_order': False, 'shape': (2, 3), }                                                          \n\x03\x00\x01\x00\x03\x00\x06\x00\x04\x00\x06\x00",
-    ),
+    b"select 1 3 2 0 2\n\
+      \x93NUMPY\x01\x00v\x00{'descr': '<i2', 'fortran_order': False, 'shape': (2, 3), }                                                          \n\x01\x00\x02\x00\x03\x00\x04\x00\x05\x00\x06\x00\n\
+      => \x93NUMPY\x01\x00v\x00{'descr': '<i2', 'fortran_order': False, 'shape': (2, 3), }                                                          \n\x03\x00\x01\x00\x03\x00\x06\x00\x04\x00\x06\x00",
     // a.T.reshape(2, 3)[1]
-    (
-        b"reverse reshape 2 2 3 index 0 1",
-        b"\x93NUMPY\x01\x00v\x00{'descr': '<i2', 'fortran_order': False, 'shape': (2, 3), }                                                          \n\x01\x00\x02\x00\x03\x00\x04\x00\x05\x00\x06\x00",
-        b"\x93NUMPY\x01\x00v\x00{'descr': '<i2', 'fortran_order': False, 'shape': (3,), }                                                            \n\x05\x00\x03\x00\x06\x00",
-    ),
+    b"reverse reshape 2 2 3 index 0 1\n\
+      \x93NUMPY\x01\x00v\x00{'descr': '<i2', 'fortran_order': False, 'shape': (2, 3), }                                                          \n\x01\x00\x02\x00\x03\x00\x04\x00\x05\x00\x06\x00\n\
+      => \x93NUMPY\x01\x00v\x00{'descr': '<i2', 'fortran_order': False, 'shape': (3,), }                                                            \n\x05\x00\x03\x00\x06\x00",
     // no elements
-    (
-        b"swapaxes 0 1",
-        b"\x93NUMPY\x01\x00v\x00{'descr': '<u8', 'fortran_order': False, 'shape': (0, 3), }                                                          \n",
-        b"\x93NUMPY\x01\x00v\x00{'descr': '<u8', 'fortran_order': False, 'shape': (3, 0), }                                                          \n",
-    ),
+    b"swapaxes 0 1\n\
+      \x93NUMPY\x01\x00v\x00{'descr': '<u8', 'fortran_order': False, 'shape': (0, 3), }                                                          \n\n\
+      => \x93NUMPY\x01\x00v\x00{'descr': '<u8', 'fortran_order': False, 'shape': (3, 0), }                                                          \n",
 ];
 
 #[test]
 fn files_after_steps(rt: HostRuntime) {
-    for (words, file, expected) in &TURNED {
-        assert!(rt; told(rt.alloc(), words, file, 0, expected, b""));
-    }
+    assert!(rt; are_told(rt.alloc(), 0, &TURNED));
 }
 
 // The words, the file that is read, and the line that describes the array after the steps: what stands in numpy's file
 // of it between byte 10 and the elements.
-const DESCRIBED: [Row; 2] = [
-    (
-        b"describe",
-        b"\x93NUMPY\x01\x00v\x00{'descr': '>f4', 'fortran_order': True, 'shape': (2, 2), }                                                           \n?\xc0\x00\x00@`\x00\x00@ \x00\x00@\x90\x00\x00",
-        b"{'descr': '>f4', 'fortran_order': False, 'shape': (2, 2), }                                                          \n",
-    ),
-    (
-        b"describe reverse index 1 0",
-        b"\x93NUMPY\x01\x00v\x00{'descr': '<i2', 'fortran_order': False, 'shape': (2, 3), }                                                          \n\x01\x00\x02\x00\x03\x00\x04\x00\x05\x00\x06\x00",
-        b"{'descr': '<i2', 'fortran_order': False, 'shape': (3,), }                                                            \n",
-    ),
+const DESCRIBED: [&[u8]; 2] = [
+    b"describe\n\
+      \x93NUMPY\x01\x00v\x00{'descr': '>f4', 'fortran_order': True, 'shape': (2, 2), }                                                           \n?\xc0\x00\x00@`\x00\x00@ \x00\x00@\x90\x00\x00\n\
+      => {'descr': '>f4', 'fortran_order': False, 'shape': (2, 2), }                                                          \n",
+    b"describe reverse index 1 0\n\
+      \x93NUMPY\x01\x00v\x00{'descr': '<i2', 'fortran_order': False, 'shape': (2, 3), }                                                          \n\x01\x00\x02\x00\x03\x00\x04\x00\x05\x00\x06\x00\n\
+      => {'descr': '<i2', 'fortran_order': False, 'shape': (3,), }                                                            \n",
 ];
 
 #[test]
 fn descriptions_after_steps(rt: HostRuntime) {
-    for (words, file, expected) in &DESCRIBED {
-        assert!(rt; told(rt.alloc(), words, file, 0, expected, b""));
-    }
+    assert!(rt; are_told(rt.alloc(), 0, &DESCRIBED));
 }
 
 // The words, the file that is read, and the line that tells the shape after the steps.
-const SHAPES: [Row; 4] = [
-    (
-        b"shape",
-        b"\x93NUMPY\x01\x00v\x00{'descr': '<i2', 'fortran_order': False, 'shape': (2, 3), }                                                          \n\x01\x00\x02\x00\x03\x00\x04\x00\x05\x00\x06\x00",
-        b"(2, 3)\n",
-    ),
-    (
-        b"shape index 0 1",
-        b"\x93NUMPY\x01\x00v\x00{'descr': '<i2', 'fortran_order': False, 'shape': (2, 3), }                                                          \n\x01\x00\x02\x00\x03\x00\x04\x00\x05\x00\x06\x00",
-        b"(3,)\n",
-    ),
-    (
-        b"shape index 0 1 index 0 0",
-        b"\x93NUMPY\x01\x00v\x00{'descr': '<i2', 'fortran_order': False, 'shape': (2, 3), }                                                          \n\x01\x00\x02\x00\x03\x00\x04\x00\x05\x00\x06\x00",
-        b"()\n",
-    ),
-    (
-        b"shape reshape 3 1 6 1 cut 1 0 0 1",
-        b"\x93NUMPY\x01\x00v\x00{'descr': '<i2', 'fortran_order': False, 'shape': (2, 3), }                                                          \n\x01\x00\x02\x00\x03\x00\x04\x00\x05\x00\x06\x00",
-        b"(1, 0, 1)\n",
-    ),
+const SHAPES: [&[u8]; 4] = [
+    b"shape\n\
+      \x93NUMPY\x01\x00v\x00{'descr': '<i2', 'fortran_order': False, 'shape': (2, 3), }                                                          \n\x01\x00\x02\x00\x03\x00\x04\x00\x05\x00\x06\x00\n\
+      => (2, 3)\n",
+    b"shape index 0 1\n\
+      \x93NUMPY\x01\x00v\x00{'descr': '<i2', 'fortran_order': False, 'shape': (2, 3), }                                                          \n\x01\x00\x02\x00\x03\x00\x04\x00\x05\x00\x06\x00\n\
+      => (3,)\n",
+    b"shape index 0 1 index 0 0\n\
+      \x93NUMPY\x01\x00v\x00{'descr': '<i2', 'fortran_order': False, 'shape': (2, 3), }                                                          \n\x01\x00\x02\x00\x03\x00\x04\x00\x05\x00\x06\x00\n\
+      => ()\n",
+    b"shape reshape 3 1 6 1 cut 1 0 0 1\n\
+      \x93NUMPY\x01\x00v\x00{'descr': '<i2', 'fortran_order': False, 'shape': (2, 3), }                                                          \n\x01\x00\x02\x00\x03\x00\x04\x00\x05\x00\x06\x00\n\
+      => (1, 0, 1)\n",
 ];
 
 #[test]
 fn shapes_after_steps(rt: HostRuntime) {
-    for (words, file, expected) in &SHAPES {
-        assert!(rt; told(rt.alloc(), words, file, 0, expected, b""));
-    }
+    assert!(rt; are_told(rt.alloc(), 0, &SHAPES));
 }
 
 // The words, the file that is read, and the text of the array after the steps: of each kind that has a text, in one of
 // the byte orders or in both.
-const TEXTS: [Row; 13] = [
-    (
-        b"print reverse",
-        b"\x93NUMPY\x01\x00v\x00{'descr': '<i2', 'fortran_order': False, 'shape': (2, 3), }                                                          \n\x01\x00\x02\x00\x03\x00\x04\x00\x05\x00\x06\x00",
-        b"[[1, 4],\n [2, 5],\n [3, 6]]\n",
-    ),
-    (
-        b"print",
-        b"\x93NUMPY\x01\x00v\x00{'descr': '|b1', 'fortran_order': False, 'shape': (2,), }                                                            \n\x01\x00",
-        b"[true, false]\n",
-    ),
-    (
-        b"print",
-        b"\x93NUMPY\x01\x00v\x00{'descr': '|i1', 'fortran_order': False, 'shape': (2,), }                                                            \n\x80\x7f",
-        b"[-128, 127]\n",
-    ),
-    (
-        b"print",
-        b"\x93NUMPY\x01\x00v\x00{'descr': '>i2', 'fortran_order': False, 'shape': (2,), }                                                            \n\x80\x00\x01\x02",
-        b"[-32768, 258]\n",
-    ),
-    (
-        b"print",
-        b"\x93NUMPY\x01\x00v\x00{'descr': '<i4', 'fortran_order': False, 'shape': (2,), }                                                            \n\x00\x00\x00\x80\x04\x03\x02\x01",
-        b"[-2147483648, 16909060]\n",
-    ),
-    (
-        b"print",
-        b"\x93NUMPY\x01\x00v\x00{'descr': '>i8', 'fortran_order': False, 'shape': (1,), }                                                            \n\x80\x00\x00\x00\x00\x00\x00\x00",
-        b"[-9223372036854775808]\n",
-    ),
-    (
-        b"print",
-        b"\x93NUMPY\x01\x00v\x00{'descr': '|u1', 'fortran_order': False, 'shape': (1,), }                                                            \n\xff",
-        b"[255]\n",
-    ),
-    (
-        b"print",
-        b"\x93NUMPY\x01\x00v\x00{'descr': '>u2', 'fortran_order': False, 'shape': (2,), }                                                            \n\xff\xff\x01\x00",
-        b"[65535, 256]\n",
-    ),
-    (
-        b"print",
-        b"\x93NUMPY\x01\x00v\x00{'descr': '<u4', 'fortran_order': False, 'shape': (1,), }                                                            \n\xff\xff\xff\xff",
-        b"[4294967295]\n",
-    ),
-    (
-        b"print",
-        b"\x93NUMPY\x01\x00v\x00{'descr': '>u8', 'fortran_order': False, 'shape': (1,), }                                                            \n\xff\xff\xff\xff\xff\xff\xff\xff",
-        b"[18446744073709551615]\n",
-    ),
-    (
-        b"print",
-        b"\x93NUMPY\x01\x00v\x00{'descr': '<i4', 'fortran_order': False, 'shape': (), }                                                              \n\xf9\xff\xff\xff",
-        b"-7\n",
-    ),
-    (
-        b"print",
-        b"\x93NUMPY\x01\x00v\x00{'descr': '<u4', 'fortran_order': False, 'shape': (2, 0), }                                                          \n",
-        b"[[]]\n",
-    ),
-    (
-        b"print select 0 1 1 reshape 3 1 3 1",
-        b"\x93NUMPY\x01\x00v\x00{'descr': '<i2', 'fortran_order': False, 'shape': (2, 3), }                                                          \n\x01\x00\x02\x00\x03\x00\x04\x00\x05\x00\x06\x00",
-        b"[[[4],\n  [5],\n  [6]]]\n",
-    ),
+const TEXTS: [&[u8]; 13] = [
+    b"print reverse\n\
+      \x93NUMPY\x01\x00v\x00{'descr': '<i2', 'fortran_order': False, 'shape': (2, 3), }                                                          \n\x01\x00\x02\x00\x03\x00\x04\x00\x05\x00\x06\x00\n\
+      => [[1, 4],\n [2, 5],\n [3, 6]]\n",
+    b"print\n\
+      \x93NUMPY\x01\x00v\x00{'descr': '|b1', 'fortran_order': False, 'shape': (2,), }                                                            \n\x01\x00\n\
+      => [true, false]\n",
+    b"print\n\
+      \x93NUMPY\x01\x00v\x00{'descr': '|i1', 'fortran_order': False, 'shape': (2,), }                                                            \n\x80\x7f\n\
+      => [-128, 127]\n",
+    b"print\n\
+      \x93NUMPY\x01\x00v\x00{'descr': '>i2', 'fortran_order': False, 'shape': (2,), }                                                            \n\x80\x00\x01\x02\n\
+      => [-32768, 258]\n",
+    b"print\n\
+      \x93NUMPY\x01\x00v\x00{'descr': '<i4', 'fortran_order': False, 'shape': (2,), }                                                            \n\x00\x00\x00\x80\x04\x03\x02\x01\n\
+      => [-2147483648, 16909060]\n",
+    b"print\n\
+      \x93NUMPY\x01\x00v\x00{'descr': '>i8', 'fortran_order': False, 'shape': (1,), }                                                            \n\x80\x00\x00\x00\x00\x00\x00\x00\n\
+      => [-9223372036854775808]\n",
+    b"print\n\
+      \x93NUMPY\x01\x00v\x00{'descr': '|u1', 'fortran_order': False, 'shape': (1,), }                                                            \n\xff\n\
+      => [255]\n",
+    b"print\n\
+      \x93NUMPY\x01\x00v\x00{'descr': '>u2', 'fortran_order': False, 'shape': (2,), }                                                            \n\xff\xff\x01\x00\n\
+      => [65535, 256]\n",
+    b"print\n\
+      \x93NUMPY\x01\x00v\x00{'descr': '<u4', 'fortran_order': False, 'shape': (1,), }                                                            \n\xff\xff\xff\xff\n\
+      => [4294967295]\n",
+    b"print\n\
+      \x93NUMPY\x01\x00v\x00{'descr': '>u8', 'fortran_order': False, 'shape': (1,), }                                                            \n\xff\xff\xff\xff\xff\xff\xff\xff\n\
+      => [18446744073709551615]\n",
+    b"print\n\
+      \x93NUMPY\x01\x00v\x00{'descr': '<i4', 'fortran_order': False, 'shape': (), }                                                              \n\xf9\xff\xff\xff\n\
+      => -7\n",
+    b"print\n\
+      \x93NUMPY\x01\x00v\x00{'descr': '<u4', 'fortran_order': False, 'shape': (2, 0), }                                                          \n\n\
+      => [[]]\n",
+    b"print select 0 1 1 reshape 3 1 3 1\n\
+      \x93NUMPY\x01\x00v\x00{'descr': '<i2', 'fortran_order': False, 'shape': (2, 3), }                                                          \n\x01\x00\x02\x00\x03\x00\x04\x00\x05\x00\x06\x00\n\
+      => [[[4],\n  [5],\n  [6]]]\n",
 ];
 
 #[test]
 fn texts_after_steps(rt: HostRuntime) {
-    for (words, file, expected) in &TEXTS {
-        assert!(rt; told(rt.alloc(), words, file, 0, expected, b""));
-    }
+    assert!(rt; are_told(rt.alloc(), 0, &TEXTS));
 }

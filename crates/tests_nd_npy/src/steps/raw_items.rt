@@ -2,7 +2,7 @@
 
 use crate::steps::step_checks::steps_of;
 use nd_array_core::Array;
-use nd_npy_steps::after_steps;
+use nd_npy_run::steps::after_steps;
 use nd_shape_and_slice::IxDyn;
 use std::test::Fail;
 

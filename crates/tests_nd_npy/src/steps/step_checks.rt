@@ -1,7 +1,7 @@
 //! Reading steps, taking them on an array, and telling the errors.
 
 use nd_array_core::Array;
-use nd_npy_steps::{NpyStep, NpyStepsError, WordsError, after_steps, read_steps};
+use nd_npy_run::steps::{NpyStep, NpyStepsError, WordsError, after_steps, read_steps};
 use nd_shape_and_slice::IxDyn;
 use std::alloc::Global;
 use std::test::Fail;

@@ -5,7 +5,8 @@ use Rattle.nd_npy_text.specs.HeaderDescription.{description_of}
 use Rattle.nd_npy_text.specs.HeaderReading.{npy_header_in}
 use Rattle.nd_npy.specs.FileBytesAndArrays.{or_header_error, array_after_head, IsNpyCause}
 use Rattle.nd_npy.specs.StreamReadsAndWrites.{bytes_ahead, ReadsStreamAs}
-use Rattle.nd_npy.proofs.ArraysFromStreams.{head_bytes, lengths_bytes, file_error, stream_of_head, stream_of_cause}
+use Rattle.nd_npy_text.proofs.MemoryLackAfterHeader.{head_bytes, lengths_bytes}
+use Rattle.nd_npy.proofs.ArraysFromStreams.{file_error, stream_of_head, stream_of_cause}
 use Rattle.nd_npy.proofs.DataSizeAndErrorCauses.{header_is}
 use Rattle.nd_npy.proofs.streams.array_behind.Goals as goal
 

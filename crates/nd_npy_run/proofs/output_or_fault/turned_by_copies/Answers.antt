@@ -1,7 +1,7 @@
 use Rattle.std.proofs.Common.{◌≤◌, length, map, arith}
 use Rattle.std.proofs.lemmas.List.{length-map}
 use Rattle.nd_array_core.specs.ArrayMeaning.{meaning_of}
-use Rattle.nd_npy_steps.specs.ViewSelectAndReshapeSteps.{asked_npy_step}
+use Rattle.nd_npy_run.specs.ViewSelectAndReshapeSteps.{asked_npy_step}
 use Rattle.nd_steps.proofs.StepEquations.{same_meaning}
 use Rattle.nd_npy_run.proofs.FilesOfItemBytes.{array_fails, turned_comes, refused_taking, refused_then, some_items}
 use Rattle.nd_npy_run.proofs.output_or_fault.turned_by_copies.Goals as goal

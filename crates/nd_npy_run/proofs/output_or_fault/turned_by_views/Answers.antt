@@ -1,6 +1,6 @@
 use Rattle.std.proofs.Common.{map, refl, arith}
 use Rattle.nd_array_core.specs.ArrayMeaning.{meaning_of}
-use Rattle.nd_npy_steps.specs.ViewSelectAndReshapeSteps.{asked_npy_step}
+use Rattle.nd_npy_run.specs.ViewSelectAndReshapeSteps.{asked_npy_step}
 use Rattle.nd_npy_run.proofs.FilesOfItemBytes.{array_fails, turned_comes, refused_then}
 use Rattle.nd_npy_run.proofs.output_or_fault.turned_by_views.Goals as goal
 

@@ -1,6 +1,7 @@
 use Rattle.std.proofs.Common.{◌∙◌, ◌<◌, IfSome, OnErr, ap, reverse, rules, subst}
 use Rattle.std.proofs.lemmas.List.{reverse-reverse}
 use Rattle.nd_array_core.specs.ArrayMeaning.{meaning_of, element_at, shape_of}
+use Rattle.nd_array_core.proofs.law_lemmas.LayoutLaws.{reversed_inside}
 use Rattle.nd_array_core.proofs.reshape_lemmas.ElementsListedInOrder.{turned_count}
 use Rattle.nd_numeric.specs.EqualShapeArithmetic.{IsOfAlike}
 use Rattle.nd_numeric.proofs.ElementwiseOnReversedAxes.{turned_back}
@@ -19,7 +20,7 @@ returns-in-Some-2-clause-combined g c =
     let turned = made.0 ∙ c.t.ensures.part.0 in
     let back = c.reversed_axes.ensures.part.0 in (
       back.0 ∙ ap reverse turned ∙ reverse-reverse m.shape,
-      turned_back h m (meaning_of c.args.other.now) c.requires.alike c.nothing_outside.ensures c.maps_lead_inside.ensures.reversed
+      turned_back h m (meaning_of c.args.other.now) c.requires.alike c.nothing_outside.ensures reversed_inside
           (element_at c.t.result) (element_at c.t-2.result) (element_at c.in-Some-2.made) (element_at c.reversed_axes.result)
           c.t.ensures.part.2 c.t-2.ensures.part.2 made.1 (shape_of c.in-Some-2.made) turned back.2,
     )

@@ -7,9 +7,6 @@ use Rattle.nd_numeric.proofs.OneAxisInOrder.{in_order}
 use Rattle.uses_nd_iter_stacking_and_numeric.specs.DistancesAndWindowMeans.{side_by_side, squared_difference}
 use Rattle.uses_nd_iter_stacking_and_numeric.proofs.nearest_centres.distance_between.Goals as goal
 
-pub squared_distance-requires : goal.squared_distance-requires
-squared_distance-requires g c = c.row_seen-other.ensures.0 ∙ ap (λ n. n ∷ []) c.requires.columns ∙ sym c.row_seen-one.ensures.0
-
 pub returns : goal.returns
 returns g c =
     let one = table_of c.args.points.now in
