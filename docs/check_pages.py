@@ -40,7 +40,7 @@ NAMED = re.compile(r"-- (proofs/\S+)\n")
 # Files that docs/TRIED.md names though there are none, since the checker refuses them.
 NO_FILES = ["Ordered.antt", "proofs/Blocks.antt", "proofs/Divisors.antt", "proofs/Joined.antt", "proofs/Printed.antt"]
 NO_FILES += ["specs/along.antt", "specs/along/Lib.antt", "specs/along/mod.antt", "src/blocks.rt"]
-TEST = re.compile(r"`(tests_\w+)/(\w+)::(\w+)`")
+TEST = re.compile(r"`(tests_\w+)/(\w+(?:::\w+)*)::(\w+)`")
 LINK = re.compile(r"\]\(([^)\s]+)\)")
 
 OWNER = re.compile(r"^(?:impl\b|pub trait )[^{]*\{", re.MULTILINE)
@@ -143,8 +143,8 @@ def check_calls():
     wrong += [f"docs/CALLS.md: the error of `{call}` is {error or 'none'}" for call, error in calls.items() if rows.get(call, error) != error]
     wrong += [f"docs/CALLS.md: `{call}` stands in {stands[call]}" for call in calls if call in rows and f"{stands[call]}`" not in files[call]]
     for crate, module, test in sorted(set(TEST.findall(page))):
-        path = f"crates/{crate}/src/{module}.rt"
-        if not os.path.exists(path) or f"fn {test}(" not in read(path):
+        path = f"crates/{crate}/src/{module.replace('::', '/')}.rt"
+        if not os.path.exists(path) or not re.search(rf"fn {test}[(<]", read(path)):
             wrong.append(f"docs/CALLS.md: {path} has no test {test}")
     print(f"{len(calls)} calls of arrays, {len(rows)} rows")
     return wrong

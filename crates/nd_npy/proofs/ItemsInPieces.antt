@@ -1,5 +1,5 @@
 -- The values of items that come piece by piece.
-use Rattle.std.proofs.Common.{◌≡◌, ◌∙◌, ◌<◌, ◌≤◌, ◌+◌, ◌-◌, ◌*◌, ◌/◌, ◌^◌, min, ◌⊎◌, inl, inr, ⊎_elim, Bool, true, false, leb, ltb, append_assoc, append-nil, mul-le-mul_right, take-take, ℕ, zero, suc, List, [], ◌∷◌, ◌++◌, length, take, drop, refl, sym, ap, subst, arith}
+use Rattle.std.proofs.Common.{◌≡◌, ◌∙◌, ◌<◌, ◌≤◌, ◌+◌, ◌-◌, ◌*◌, ◌/◌, ◌^◌, min, ◌⊎◌, inl, inr, ⊎_elim, Bool, true, false, leb, ltb, append_assoc, append-nil, mul-le-mul_right, take-take, ℕ, zero, suc, List, [], ◌∷◌, ◌++◌, length, take, take_all, drop, refl, sym, ap, subst, arith}
 use Rattle.std.proofs.lemmas.List.{length-append, length-drop, take-append-le, drop-append-le, drop-drop, drop-take}
 use Rattle.std.proofs.lemmas.Bool.{leb-true, leb-false, ltb-true, ltb-false}
 use Rattle.std.proofs.Math.Nat.{div-mul-le_self, lt-div-mul-add, min-eq_left, min-eq_right}
@@ -202,3 +202,9 @@ module _ {A : Type 0} (value : List ℕ → A) (size count : ℕ) where
       let cut : length left ≡ length bytes - k * size = ap length takes.rest ∙ length-drop (k * size) bytes in
       let most : after * size ≤ count * size = mul-le-mul_right size takes.at_most_count in
       omega (arith, product, cut, takes.within, most, first, then, grown, low, fits)
+
+-- bytes without those at the front, which were put behind the others and cut off
+pub front_dropped : (bytes turned new : List ℕ) (count n : ℕ) → n ≡ length bytes - count → turned ≡ drop count bytes ++ take count bytes → new ≡ take n turned → new ≡ drop count bytes
+front_dropped bytes turned new count n is turns cuts =
+    let long : length (drop count bytes) ≡ n = length-drop count bytes ∙ sym is in
+    cuts ∙ ap (take n) turns ∙ take-append-le n (drop count bytes) (take count bytes) (omega (arith, long)) ∙ take_all n (drop count bytes) (omega (arith, long))

@@ -1,6 +1,6 @@
 -- The bytes of elements that an iterator gives, one after another.
 use Rattle.std.proofs.Common.{◌≡◌, ◌∙◌, ℕ, zero, suc, List, [], ◌∷◌, ◌++◌, sym, ap, arith, subst, All, append_assoc, append-nil}
-use Rattle.std.specs.Prelude.{Option, None, Some, Result, Ok, Err, OnOk}
+use Rattle.std.specs.Prelude.{Option, None, Some, Result, OnOk}
 use Rattle.std.specs.List.{flat_map}
 use denote.Ref.{Bor}
 use Rattle.nd_npy_text.specs.declared.item_type.ByteOrder.{ByteOrder}
@@ -44,12 +44,6 @@ module _ {A I : Type 0} (item : npy_item.Ghosts A) (order : ByteOrder) (gives : 
       let before = kept rest steps in
       (sym (append-nil bytes) ∙ ap (λ l. bytes ++ flat_map (item.bytes_of order) l) (sym none) ∙ before.0, before.1 (none_left item.fits (rest it) none))
 
--- what is said of all bytes and all elements, if the call succeeded
-module _ {A X E : Type 0} (item : npy_item.Ghosts A) (order : ByteOrder) (old new : List ℕ) (given elements : List A) (same : given ≡ elements) where
-  pub bytes_written : (r : Result X E) → OnOk r (WritesAll item order given old new) → OnOk r (new ≡ old ++ flat_map (item.bytes_of order) elements)
-  bytes_written (Ok x) all = all.0 ∙ ap (λ l. old ++ flat_map (item.bytes_of order) l) same
-  bytes_written (Err e) all = tt
-
-  pub elements_fit : (r : Result X E) → OnOk r (WritesAll item order given old new) → OnOk r (All item.fits elements)
-  elements_fit (Ok x) all = subst (All item.fits) same all.1
-  elements_fit (Err e) all = tt
+-- what is said of all bytes and all elements, if the call succeeded, under another name of the elements
+pub all_in_turn : {A X E : Type 0} (item : npy_item.Ghosts A) (order : ByteOrder) (old new : List ℕ) (given elements : List A) → given ≡ elements → (r : Result X E) → OnOk r (WritesAll item order given old new) → OnOk r (WritesAll item order elements old new)
+all_in_turn item order old new given elements same r all = subst (λ l. OnOk r (WritesAll item order l old new)) same all

@@ -1,6 +1,6 @@
 -- What is read from a reader and written to a writer, and in which order an array that lies in memory is written.
-use Rattle.std.specs.Prelude.{◌≡◌, ◌↔◌, ◌⊎◌, ◌<◌, ◌≤◌, ◌+◌, ◌*◌, ℕ, Bool, true, false, List, ◌++◌, length, drop, Option, Result, Ok, Err, IsTrue}
-use Rattle.std.specs.Io.KnownBytes.{prepend_known}
+use Rattle.std.specs.Prelude.{◌≡◌, ◌↔◌, ◌⊎◌, ◌<◌, ◌≤◌, ◌+◌, ◌*◌, ℕ, Bool, true, false, List, ◌++◌, length, drop, Option, IfSome, Result, Ok, Err, IsTrue}
+use Rattle.std.specs.Io.KnownBytes.{prepend_known, Keeps, IsAtEnd}
 use Rattle.nd_shape_and_slice.specs.declared.dimension.Dimension as dimension
 use Rattle.nd_shape_and_slice.specs.declared.dimension.AxisCount as axis_count
 use Rattle.nd_shape_and_slice.specs.declared.dimension.StrideList as stride_list
@@ -75,6 +75,14 @@ module _ {S D T A R : Type 0} {s : data_trait.Ghosts S A} {d : dimension.Ghosts 
 -- has left.
 abbrev pub bytes_ahead : {R : Type 0} → (R → Option (List ℕ)) → List ℕ → Watched R → Option (List ℕ)
 bytes_ahead remaining pending input = prepend_known pending (remaining (watched_inner input))
+
+-- Says what one read has done for this result: it has put bytes behind those that wait (true), or found the end of the
+-- input (false), and what is ahead stays; or it failed, or memory was refused, which is so only where the input has bytes
+-- left.
+abbrev pub ReadsOn : {R : Type 0} → (R → Option (List ℕ)) → Watched R → Watched R → List ℕ → List ℕ → Result Bool ReadNpyFromError → Type 0
+ReadsOn remaining old new before after (Ok true) = Keeps (bytes_ahead remaining before old) (bytes_ahead remaining after new) × (length before < length after)
+ReadsOn remaining old new before after (Ok false) = Keeps (bytes_ahead remaining before old) (bytes_ahead remaining after new) × IsAtEnd (remaining (watched_inner new)) × (after ≡ before)
+ReadsOn remaining old new before after (Err error) = FailsToRead error (IfSome (remaining (watched_inner old)) (λ xs. 0 < length xs))
 
 -- Says that the values of some items at the front of the bytes were put after `old`, so that there are `count` values, or
 -- less than one item is left.

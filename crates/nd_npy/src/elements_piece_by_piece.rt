@@ -1,11 +1,10 @@
 //! The elements of a file as they come from a stream, piece by piece.
 
-ghost use Rattle.std.specs.Prelude.{◌≡◌, ◌<◌, ◌≤◌, ◌+◌, ◌*◌, ◌++◌, ◌^◌, false, true, length, take, drop, vec_len, vec_capacity, [], Ok, OnOk, IfOk, IfErr, IfSome};
+ghost use Rattle.std.specs.Prelude.{◌≡◌, ◌<◌, ◌≤◌, ◌+◌, ◌*◌, ◌^◌, false, true, length, take, drop, vec_len, [], OnOk, IfOk, IfErr, IfSome};
 ghost use Rattle.std.specs.Io.KnownBytes.{IsAtEnd, Keeps};
 ghost use Rattle.nd_text.specs.WatchedReadersAndWriters.{watched_inner, watched_failed};
 ghost use Rattle.nd_npy_text.specs.HeaderReading.{is_cut_off};
-ghost use Rattle.nd_npy.specs.ItemBytes.{values_in};
-ghost use Rattle.nd_npy.specs.StreamReadsAndWrites.{bytes_ahead, AnswersAsWatched, FailsToRead, TakesItems, GivesValues};
+ghost use Rattle.nd_npy.specs.StreamReadsAndWrites.{bytes_ahead, AnswersAsWatched, FailsToRead, ReadsOn, TakesItems, GivesValues};
 ghost use Rattle.nd_npy.specs.declared.errors.ReadNpyError.TheVariants.{WrongSize};
 ghost use Rattle.nd_npy.specs.declared.errors.ReadNpyFromError.TheVariants.{File};
 
@@ -18,20 +17,18 @@ use nd_text::Watched;
 use std::alloc::{AllocError, Global};
 use std::io::Read;
 
+/// How many bytes one read asks for, which is what a pipe holds.
+pub(crate) const PIECE_LEN: usize = 65536;
+
 /// Reads into `piece` once, and appends what was read to `pending`. Returns whether there was anything: otherwise the
 /// input is at its end.
 pub(crate) fn read_on<R: Read>(
     input: &mut Watched<R>,
-    piece: &mut [u8],
+    piece: &mut [u8; PIECE_LEN],
     pending: &mut Vec<u8>,
 ) -> Result<bool, ReadNpyFromError>
     requires fine { watched_failed input.old ≡ false }
-    requires not_empty { 0 < length piece.old }
-    ensures piece { length piece.new ≡ length piece.old }
-    ensures ahead { OnOk result (Keeps (bytes_ahead R.remaining pending.old.items input.old) (bytes_ahead R.remaining pending.new.items input.new)) }
-    ensures more { result ≡ Ok true → vec_len pending.old < vec_len pending.new }
-    ensures end { result ≡ Ok false → IsAtEnd (R.remaining (watched_inner input.new)) × (pending.new ≡ pending.old) }
-    ensures refused { IfErr result (λ e. FailsToRead e (IfSome (R.remaining (watched_inner input.old)) (λ xs. 0 < length xs))) }
+    ensures reads { ReadsOn R.remaining input.old input.new pending.old.items pending.new.items result }
     ensures watch { AnswersAsWatched input.old input.new result }
 {
     match input.read(piece) {
@@ -59,13 +56,10 @@ pub(crate) fn drop_front(bytes: &mut Vec<u8>, count: usize)
 pub(crate) fn read_front<R: Read>(
     alloc: Global,
     input: &mut Watched<R>,
-    piece: &mut [u8],
+    piece: &mut [u8; PIECE_LEN],
 ) -> Result<Vec<u8>, ReadNpyFromError>
     requires fine { watched_failed input.old ≡ false }
-    requires not_empty { 0 < length piece.old }
-    ensures piece { length piece.new ≡ length piece.old }
-    ensures ahead { IfOk result (λ v. Keeps (R.remaining (watched_inner input.old)) (bytes_ahead R.remaining v.items input.new)) }
-    ensures enough { IfOk result (λ v. is_cut_off v.items ≡ true → IsAtEnd (R.remaining (watched_inner input.new))) }
+    ensures front { IfOk result (λ v. Keeps (R.remaining (watched_inner input.old)) (bytes_ahead R.remaining v.items input.new) × (is_cut_off v.items ≡ true → IsAtEnd (R.remaining (watched_inner input.new)))) }
     ensures refused { IfErr result (λ e. FailsToRead e (IfSome (R.remaining (watched_inner input.old)) (λ xs. 0 < length xs))) }
     ensures watch { AnswersAsWatched input.old input.new result }
 {
@@ -96,10 +90,14 @@ fn take_items<A: NpyItem>(
 {
     let wanted = (pending.len() / size).min(count - values.len());
     let taken = wanted * size;
-    values.reserve(wanted)?;
-    push_values(values, order, size, wanted, &pending[..taken]);
-    drop_front(pending, taken);
-    Ok(())
+    match values.reserve(wanted) {
+        Ok(()) => {
+            push_values(values, order, size, wanted, &pending[..taken]);
+            drop_front(pending, taken);
+            Ok(())
+        }
+        Err(error) => Err(error),
+    }
 }
 
 /// Fails unless `taken` items of `size` bytes each and the `left` bytes that are left over are as many bytes as `count`
@@ -134,10 +132,9 @@ pub(crate) fn values_ahead<A: NpyItem, R: Read>(
     count: usize,
     pending: &mut Vec<u8>,
     input: &mut Watched<R>,
-    piece: &mut [u8],
+    piece: &mut [u8; PIECE_LEN],
 ) -> Result<(), ReadNpyFromError>
     requires fine { watched_failed input.old ≡ false }
-    requires not_empty { 0 < length piece.old }
     requires size { size ≡ A.size }
     requires some { 0 < size }
     requires fits { count * size < 2 ^ 63 }

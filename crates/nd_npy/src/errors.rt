@@ -68,7 +68,7 @@ impl fmt::Display for ReadNpyError {
 
     fn fmt<W: fmt::Write>(&self, f: &mut fmt::Formatter<W>) -> fmt::Result {
         match self {
-            ReadNpyError::Header(error) => write!(f, "{error}"),
+            ReadNpyError::Header(error) => fmt::Display::fmt(error, f),
             ReadNpyError::OtherKind(kind) => write!(
                 f,
                 "the elements are of the kind {}, which isn't the kind asked for",
@@ -98,7 +98,7 @@ impl fmt::Display for ReadNpyFromError {
     fn fmt<W: fmt::Write>(&self, f: &mut fmt::Formatter<W>) -> fmt::Result {
         match self {
             ReadNpyFromError::ReadFailed => f.write_str("a read failed"),
-            ReadNpyFromError::File(error) => write!(f, "{error}"),
+            ReadNpyFromError::File(error) => fmt::Display::fmt(error, f),
         }
     }
 }

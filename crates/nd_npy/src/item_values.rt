@@ -64,7 +64,11 @@ pub(crate) fn values_of<A: NpyItem>(
     ensures values { IfOk result (λ v. v.items ≡ values_in (A.value_of order) size count bytes.now) }
     ensures count { IfOk result (λ v. vec_len v ≡ count) }
 {
-    let mut values = Vec::with_capacity(alloc, count)?;
-    push_values(&mut values, order, size, count, bytes);
-    Ok(values)
+    match Vec::with_capacity(alloc, count) {
+        Ok(mut values) => {
+            push_values(&mut values, order, size, count, bytes);
+            Ok(values)
+        }
+        Err(error) => Err(error),
+    }
 }

@@ -105,14 +105,13 @@ fn array_after_head<A: NpyItem>(
     ensures read { ReadsNpyAs meaning_of result (array_after_head A.NpyItem (description_of header.now) bytes.now) }
     ensures memory { result ≡ Err Memory → IsOk (array_after_head A.NpyItem (description_of header.now) bytes.now) }
 {
-    let count = match count_in::<A>(header, bytes) {
-        Ok(count) => count,
-        Err(error) => return Err(error),
-    };
     let item_type = header.item_type;
-    match values_of(alloc, item_type.order, item_type.size(), count, bytes) {
-        Ok(values) => Ok(laid_out(header.shape.as_slice(), header.fortran_order, values)),
-        Err(_) => Err(ReadNpyError::Memory),
+    match count_in::<A>(header, bytes) {
+        Ok(count) => match values_of(alloc, item_type.order, item_type.size(), count, bytes) {
+            Ok(values) => Ok(laid_out(header.shape.as_slice(), header.fortran_order, values)),
+            Err(_) => Err(ReadNpyError::Memory),
+        },
+        Err(error) => Err(error),
     }
 }
 
@@ -186,12 +185,13 @@ fn view_after_head<'a, const N: usize>(
     ensures read { ReadsNpyAs meaning_of result (array_after_head ⟦<[u8; N] as NpyItem>⟧ (description_of header.now) bytes.now) }
     ensures memory { ¬ (result ≡ Err Memory) }
 {
-    let count = match count_in::<[u8; N]>(header, bytes) {
-        Ok(count) => count,
-        Err(error) => return Err(error),
-    };
-    let items = chunks_of::<N>(count, bytes);
-    Ok(viewed(header.shape.as_slice(), header.fortran_order, items))
+    match count_in::<[u8; N]>(header, bytes) {
+        Ok(count) => {
+            let items = chunks_of::<N>(count, bytes);
+            Ok(viewed(header.shape.as_slice(), header.fortran_order, items))
+        }
+        Err(error) => Err(error),
+    }
 }
 
 /// Returns the array that the bytes of a file mean as a view of these bytes, each element as the `N` bytes that it has in

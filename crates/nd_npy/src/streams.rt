@@ -11,7 +11,7 @@ ghost use Rattle.nd_npy.specs.StreamReadsAndWrites.{bytes_ahead, AnswersAsWatche
 ghost use Rattle.nd_npy.specs.declared.errors.ReadNpyError.TheVariants.{Memory};
 ghost use Rattle.nd_npy.specs.declared.errors.ReadNpyFromError.TheVariants.{File};
 
-use crate::elements_piece_by_piece::{drop_front, read_front, values_ahead};
+use crate::elements_piece_by_piece::{PIECE_LEN, drop_front, read_front, values_ahead};
 use crate::errors::{ReadNpyError, ReadNpyFromError, WriteNpyError};
 use crate::item::{NpyItem, NpyNumber};
 use crate::reader::{head_of, laid_out, size_of};
@@ -31,11 +31,10 @@ fn array_ahead<A: NpyItem, R: Read>(
     header: &Header,
     pending: &mut Vec<u8>,
     input: &mut Watched<R>,
-    piece: &mut [u8],
+    piece: &mut [u8; PIECE_LEN],
 ) -> Result<ArrayD<A>, ReadNpyFromError>
     requires whole { IsWholeHeader (description_of header.now) }
     requires fine { watched_failed input.old ≡ false }
-    requires not_empty { 0 < length piece.old }
     ensures read { IfSome (bytes_ahead R.remaining pending.old.items input.old) (λ bytes. ReadsStreamAs meaning_of result (array_after_head A.NpyItem (description_of header.now) bytes)) }
     ensures watch { AnswersAsWatched input.old input.new result }
 {
@@ -65,10 +64,9 @@ fn array_behind<A: NpyItem, R: Read>(
     alloc: Global,
     front: &mut Vec<u8>,
     input: &mut Watched<R>,
-    piece: &mut [u8],
+    piece: &mut [u8; PIECE_LEN],
 ) -> Result<ArrayD<A>, ReadNpyFromError>
     requires fine { watched_failed input.old ≡ false }
-    requires not_empty { 0 < length piece.old }
     requires enough { is_cut_off front.old.items ≡ true → IsAtEnd (R.remaining (watched_inner input.old)) }
     ensures read { IfSome (bytes_ahead R.remaining front.old.items input.old) (λ bytes. ReadsStreamAs meaning_of result (npy_in A.NpyItem bytes)) }
     ensures memory { result ≡ Err (File Memory) → 0 < length front.old.items }
@@ -81,24 +79,6 @@ fn array_behind<A: NpyItem, R: Read>(
             array_ahead(alloc, &header, front, input, piece)
         }
         Err(error) => Err(ReadNpyFromError::File(error)),
-    }
-}
-
-/// Returns the array that the bytes of a stream mean, which is read into `piece` again and again.
-fn read_by_pieces<A: NpyItem, R: Read>(
-    alloc: Global,
-    input: &mut Watched<R>,
-    piece: &mut [u8],
-) -> Result<ArrayD<A>, ReadNpyFromError>
-    requires fine { watched_failed input.old ≡ false }
-    requires not_empty { 0 < length piece.old }
-    ensures read { IfSome (R.remaining (watched_inner input.old)) (λ bytes. ReadsStreamAs meaning_of result (npy_in A.NpyItem bytes)) }
-    ensures memory { result ≡ Err (File Memory) → IfSome (R.remaining (watched_inner input.old)) (λ bytes. 0 < length bytes) }
-    ensures watch { AnswersAsWatched input.old input.new result }
-{
-    match read_front(alloc, input, piece) {
-        Ok(mut front) => array_behind(alloc, &mut front, input, piece),
-        Err(error) => Err(error),
     }
 }
 
@@ -125,11 +105,11 @@ pub fn read_npy_from<A: NpyItem, R: Read>(
         return Err(ReadNpyFromError::ReadFailed);
     }
     let mut piece = [0; PIECE_LEN];
-    read_by_pieces(alloc, input, &mut piece)
+    match read_front(alloc, input, &mut piece) {
+        Ok(mut front) => array_behind(alloc, &mut front, input, &mut piece),
+        Err(error) => Err(error),
+    }
 }
-
-/// The size in bytes of the buffer for one read, which is what a pipe holds.
-const PIECE_LEN: usize = 65536;
 
 /// Writes the bytes of a file to `output`, flushes it once, and returns whether no call of it failed.
 fn write_whole<W: Write>(output: &mut Watched<W>, file: &[u8]) -> Result<(), WriteNpyError>

@@ -1,11 +1,10 @@
 //! Writing the bytes of the file of an array.
 
-ghost use Rattle.std.specs.Prelude.{◌≡◌, ◌++◌, ◌≤◌, ◌↔◌, length, All, IfOk, OnOk, IsTrue};
+ghost use Rattle.std.specs.Prelude.{◌≡◌, ◌↔◌, All, IfOk, OnOk, IsTrue};
 ghost use Rattle.std.specs.Iterator.{IsFinite};
-ghost use Rattle.std.specs.List.{flat_map};
-ghost use Rattle.nd_array_core.specs.ArrayMeaning.{meaning_of, shape_of};
+ghost use Rattle.nd_array_core.specs.ArrayMeaning.{meaning_of};
 ghost use Rattle.nd_elements.specs.ShapeAndElements.{row_major_elements};
-ghost use Rattle.nd_npy.specs.FileBytesAndArrays.{data_of, file_of, file_in, listed_elements, little_items};
+ghost use Rattle.nd_npy.specs.FileBytesAndArrays.{file_of, file_in, listed_elements, little_items};
 ghost use Rattle.nd_npy.specs.WrittenElements.{GivesElements, WritesAll};
 ghost use Rattle.nd_npy.specs.StreamReadsAndWrites.{LiesInFortranOrder};
 
@@ -33,29 +32,16 @@ fn append_given<'a, A: NpyItem + 'a, I: Iterator<Item = &'a A>>(
 }
 
 /// Appends the bytes of the elements in row-major order, one after another, to `bytes`, whatever the layout is.
-fn append_each<A: NpyItem, S: Data<Elem = A>, D: Dimension>(
-    bytes: &mut Vec<u8>,
-    order: ByteOrder,
-    array: &ArrayBase<S, D>,
-) -> Result<(), AllocError>
-    ensures written { OnOk result (bytes.new.items ≡ bytes.old.items ++ data_of A.NpyItem order (meaning_of array.now)) }
-    ensures fits { OnOk result (All A.fits (row_major_elements (meaning_of array.now))) }
-{
-    append_given(bytes, order, iter(array))
-}
-
-/// Appends the bytes of the elements in row-major order, one after another, to `bytes`.
 fn append_elements<A: NpyItem, S: Data<Elem = A>, D: Dimension>(
     bytes: &mut Vec<u8>,
     order: ByteOrder,
     array: &ArrayBase<S, D>,
 ) -> Result<(), AllocError>
-    ensures written { OnOk result (bytes.new.items ≡ bytes.old.items ++ data_of A.NpyItem order (meaning_of array.now)) }
-    ensures fits { OnOk result (All A.fits (row_major_elements (meaning_of array.now))) }
+    ensures { OnOk result (WritesAll A.NpyItem order (row_major_elements (meaning_of array.now)) bytes.old.items bytes.new.items) }
 {
     match array.as_slice() {
         Some(items) => A::append_all_to(items, order, bytes),
-        None => append_each(bytes, order, array),
+        None => append_given(bytes, order, iter(array)),
     }
 }
 
@@ -114,8 +100,7 @@ fn append_listed<A: NpyItem, S: Data<Elem = A>, D: Dimension>(
     fortran_order: bool,
     array: &ArrayBase<S, D>,
 ) -> Result<(), AllocError>
-    ensures written { OnOk result (bytes.new.items ≡ bytes.old.items ++ flat_map (A.bytes_of order) (listed_elements fortran_order (meaning_of array.now))) }
-    ensures fits { OnOk result (All A.fits (listed_elements fortran_order (meaning_of array.now))) }
+    ensures { OnOk result (WritesAll A.NpyItem order (listed_elements fortran_order (meaning_of array.now)) bytes.old.items bytes.new.items) }
 {
     if fortran_order {
         append_elements(bytes, order, &array.t())
@@ -143,9 +128,13 @@ pub fn npy_bytes_in<A: NpyItem, S: Data<Elem = A>, D: Dimension>(
     ensures fits { IfOk result (λ _. All A.fits (listed_elements fortran_order (meaning_of array.now))) }
 {
     let dim = array.raw_dim();
-    let mut bytes = header_bytes(alloc, item_type, fortran_order, dim.slice())?;
-    append_listed(&mut bytes, item_type.order, fortran_order, array)?;
-    Ok(bytes)
+    match header_bytes(alloc, item_type, fortran_order, dim.slice()) {
+        Ok(mut bytes) => match append_listed(&mut bytes, item_type.order, fortran_order, array) {
+            Ok(()) => Ok(bytes),
+            Err(_) => Err(NoMemory),
+        },
+        Err(_) => Err(NoMemory),
+    }
 }
 
 /// Returns whether numpy's `save` and ndarray-npy's `write_npy` write the array in Fortran's order: where its elements

@@ -1,5 +1,6 @@
 -- Files whose items are read as their bytes.
-use Rattle.std.proofs.Common.{◌≡◌, ◌∙◌, ℕ, ◌<◌, ◌≤◌, ◌==◌, Bool, true, false, cond, List, length, take, drop, Result, Ok, Err, refl, sym, ap, subst}
+use Rattle.std.proofs.Common.{◌≡◌, ◌∙◌, ℕ, ◌<◌, ◌≤◌, ◌==◌, Bool, true, false, cond, List, [], ◌∷◌, length, take, drop, Result, Ok, Err, refl, sym, ap, subst}
+use Rattle.std.specs.List.{AllZip}
 use Rattle.std.proofs.lemmas.Bool.{eqb-true, eq-eqb, eqb-false}
 use Rattle.nd_npy_text.specs.declared.item_type.ItemType.{ItemType}
 use Rattle.nd_npy_text.specs.declared.item_type.Kind.{Kind}
@@ -21,7 +22,7 @@ use Rattle.nd_npy_run.specs.declared.output_or_fault.Fault.{Fault}
 use Rattle.nd_npy_run.specs.declared.output_or_fault.Fault.TheVariants as faults
 use Rattle.nd_npy_run.specs.declared.wanted_outputs.Wanted.{Wanted}
 use Rattle.nd_npy_run.specs.Reductions.{reduced_file}
-use Rattle.nd_npy_run.specs.OutputAndStatus.{ComesOfArray, ComesOfSteps}
+use Rattle.nd_npy_run.specs.OutputAndStatus.{ComesAfter, ComesOfArray, ComesOfSteps}
 use Rattle.nd_npy_run.specs.FilesAfterSteps.{wanted_text, Items, IsFile, file_text, HasItems, HasWrongSize, IsRefused, ReadsItems}
 
 -- a head has bytes
@@ -70,6 +71,13 @@ module _ (item : npy_item.Ghosts (List ℕ)) (bytes : List ℕ) (item_type : Ite
   items_wrong n expected found error cause is has accepts =
       wrong_is item bytes has.0 has.1 has.2 (taken n has accepts) expected found (subst (λ e. IsNpyCause e (npy_in item bytes)) is cause)
 
+-- the clone of an item is the same bytes
+pub clone_same : (R : ℕ → ℕ → Type 0) → ((x y : ℕ) → R x y → y ≡ x) → (xs ys : List ℕ) → AllZip R xs ys → ys ≡ xs
+clone_same R same [] [] all = refl
+clone_same R same [] (y ∷ ys) all = absurd all
+clone_same R same (x ∷ xs) [] all = absurd all
+clone_same R same (x ∷ xs) (y ∷ ys) all = rw (same x y all.0, clone_same R same xs ys all.1) refl
+
 -- no array is read
 pub array_fails : (wanted : Wanted) (steps : List AskedNpyStep) (bytes : List ℕ) (item_type : ItemType) (fault : Fault) → ReadsItems bytes item_type (Err fault) → ComesOfSteps wanted steps bytes (Err fault)
 array_fails wanted steps bytes item_type (faults.BadStep number word) none = absurd none
@@ -92,7 +100,7 @@ module _ (steps : List AskedNpyStep) (bytes : List ℕ) (item_type : ItemType) (
   file_bytes : 0 < length bytes
   file_bytes = head_bytes bytes (is.0, is.1.data_start) is.1.head
 
-  pub turned_comes : (wanted : Wanted) (done : ℕ) (a v n : Items) (made : Result (List ℕ) Fault) → done ≤ length steps → array_after_steps (take done steps) m ≡ Ok a → v ≡ a → rest_of_steps done steps v ≡ Ok n → ComesOfArray wanted item_type n made → ComesOfSteps wanted steps bytes made
+  turned_comes : (wanted : Wanted) (done : ℕ) (a v n : Items) (made : Result (List ℕ) Fault) → done ≤ length steps → array_after_steps (take done steps) m ≡ Ok a → v ≡ a → rest_of_steps done steps v ≡ Ok n → ComesOfArray wanted item_type n made → ComesOfSteps wanted steps bytes made
   turned_comes wanted done a v n made few first same rest comes = by_made made comes
     where
       after : array_after_steps steps m ≡ Ok n
@@ -110,12 +118,20 @@ module _ (steps : List AskedNpyStep) (bytes : List ℕ) (item_type : ItemType) (
       by_made (Err faults.Memory) comes = file_bytes
       by_made (Err faults.ReadFailed) comes = absurd comes
 
-  pub refused_first : (refusal : Refusal) → array_after_steps steps m ≡ Err refusal → IsRefused steps bytes refusal
+  refused_first : (refusal : Refusal) → array_after_steps steps m ≡ Err refusal → IsRefused steps bytes refusal
   refused_first refusal after = (is.0, m, is.1, after)
 
   -- a step that may copy elements is refused
   pub refused_taking : (done : ℕ) (error : NpyStepsError) (refusal : Refusal) → error ≡ Refused refusal → GivesArrayAfterSome {X = Items} (λ n. n) done steps m (Err error) → IsRefused steps bytes refusal
   refused_taking done error refusal same none = refused_first refusal (subst (λ e. GivesArrayAfterSome {X = Items} (λ n. n) done steps m (Err e)) same none)
 
-  pub refused_then : (done : ℕ) (a v : Items) (refusal : Refusal) → done ≤ length steps → array_after_steps (take done steps) m ≡ Ok a → v ≡ a → rest_of_steps done steps v ≡ Err refusal → IsRefused steps bytes refusal
+  refused_then : (done : ℕ) (a v : Items) (refusal : Refusal) → done ≤ length steps → array_after_steps (take done steps) m ≡ Ok a → v ≡ a → rest_of_steps done steps v ≡ Err refusal → IsRefused steps bytes refusal
   refused_then done a v refusal few first same rest = refused_first refusal (after_all steps done m a few first ∙ ap (rest_of_steps done steps) (sym same) ∙ rest)
+
+  -- what comes of the steps that follow the first `done` ones
+  pub rest_comes : (wanted : Wanted) (done : ℕ) (a v : Items) (made : Result (List ℕ) Fault) → done ≤ length steps → array_after_steps (take done steps) m ≡ Ok a → v ≡ a → ComesAfter wanted item_type (rest_of_steps done steps v) made → ComesOfSteps wanted steps bytes made
+  rest_comes wanted done a v made few first same comes = by_rest (rest_of_steps done steps v) refl comes
+    where
+      by_rest : (rest : Result Items Refusal) → rest_of_steps done steps v ≡ rest → ComesAfter wanted item_type rest made → ComesOfSteps wanted steps bytes made
+      by_rest (Ok n) is comes = turned_comes wanted done a v n made few first same is comes
+      by_rest (Err refusal) is comes = subst (ComesOfSteps wanted steps bytes) (sym comes) (refused_then done a v refusal few first same is)

@@ -14,3 +14,4 @@ pub mod NumberLists
 pub mod StepLists
 pub mod StepTexts
 pub mod SingleStepResults
+pub mod TextsAroundNumbers

@@ -1,5 +1,5 @@
 -- One step on an array: what it makes, or why it is refused.
-use Rattle.std.proofs.Common.{◌≡◌, ◌∙◌, ℕ, ◌<◌, ◌==◌, ◌^◌, false, List, length, get_or, Some, None, Ok, Err, refl, sym, ap}
+use Rattle.std.proofs.Common.{◌≡◌, ◌∙◌, ℕ, ◌<◌, ◌==◌, ◌^◌, false, List, length, get_or, Option, Some, None, Ok, Err, refl, sym, ap, subst}
 use Rattle.std.specs.Prelude.{slice_index}
 use Rattle.std.specs.Option.{option_map}
 use Rattle.std.proofs.lemmas.Bool.{ltb-true, eqb-true}
@@ -33,6 +33,10 @@ module _ {A : Type 0} (step : AskedNpyStep) (m : Meaning A) where
 -- ---- Chosen coordinates
 
 module _ {A : Type 0} (axis : ℕ) (indexes : List ℕ) (m : Meaning A) where
+  -- what is known of a choice by the lengths `ns`, which are those of the array
+  pub choice_by : {r : Option Cause} (ns : List ℕ) → ns ≡ m.shape → first_failed (choice_tests axis indexes ns) ≡ r → first_failed (choice_tests axis indexes m.shape) ≡ r
+  choice_by {r} ns same is = subst (λ lengths. first_failed (choice_tests axis indexes lengths) ≡ r) same is
+
   pub chosen_ok : (n : Meaning A) → first_failed (choice_tests axis indexes m.shape) ≡ None → n.shape ≡ selected_shape m.shape axis indexes → ((i : List ℕ) → n.at i ≡ selected_at m axis indexes i) → npy_step_result (Chosen axis indexes) m ≡ Ok n
   chosen_ok n free shape elements =
       step_ok (Chosen axis indexes) m n (ap (option_map Layout) free)

@@ -3,27 +3,19 @@ use Rattle.std.specs.Prelude.{◌≡◌, ◌⊎◌, ◌<◌, ℕ, Bool, true, fa
 use Rattle.std.specs.Io.KnownBytes.{Appends}
 use Rattle.std.specs.Result.{result_map_both}
 use Rattle.std.specs.declared.vec.Vec.{Vec}
-use Rattle.nd_shape_and_slice.specs.declared.dimension.Dimension as dimension
-use Rattle.nd_shape_and_slice.specs.declared.dimension.AxisCount as axis_count
-use Rattle.nd_shape_and_slice.specs.declared.dimension.StrideList as stride_list
-use Rattle.nd_array_core.specs.declared.base.array.ArrayBase.{ArrayBase}
-use Rattle.nd_array_core.specs.Data as data_trait
-use Rattle.nd_array_core.specs.ArrayMeaning.{Meaning, meaning_of}
 use Rattle.nd_text.specs.declared.watched_streams.Watched.{Watched}
 use Rattle.nd_text.specs.WatchedReadersAndWriters.{watched_inner, watched_failed, GetsFlushed}
 use Rattle.nd_text.specs.BufferedPrinting.{TakesText}
 use Rattle.nd_npy_text.specs.declared.item_type.ItemType.{ItemType}
-use Rattle.nd_npy_text.specs.declared.item_type.Kind.{Kind}
-use Rattle.nd_npy.specs.declared.item.NpyItem as npy_item
 use Rattle.nd_npy_run.specs.ViewSelectAndReshapeSteps.{AskedNpyStep}
 use Rattle.nd_npy_run.specs.StepListWords.{AreNpySteps, IsBadNpyStep, MayLackForSteps}
 use Rattle.nd_npy_run.specs.declared.output_or_fault.Fault.{Fault}
+use Rattle.nd_npy_run.specs.declared.steps.errors.Refusal.{Refusal}
 use Rattle.nd_npy_run.specs.declared.reduction.ReductionError.{ReductionError}
 use Rattle.nd_npy_run.specs.declared.wanted_outputs.Wanted.{Wanted}
 use Rattle.nd_npy_run.specs.declared.wanted_outputs.Wanted.TheVariants.{Text}
 use Rattle.nd_npy_run.specs.declared.output_or_fault.Fault.TheVariants.{BadStep, BadHead, WrongSize, Refused, NoText, NotReduced, Memory, ReadFailed}
 use Rattle.nd_npy_run.specs.ItemTexts.{has_text}
-use Rattle.nd_npy_run.specs.Reductions.{lanes_written, numbers_written}
 use Rattle.nd_npy_run.specs.ErrorTexts.{npy_line_text, npy_write_failure_text, npy_fault_text}
 use Rattle.nd_npy_run.specs.FilesAfterSteps.{TurnsInto, IsRefused, HasWrongSize, HasNoHead, HasNoText, HasNoReduction, IsNotReduced, wanted_text, Items}
 
@@ -35,6 +27,11 @@ ComesOfArray wanted item_type m (Err (NoText kind)) = (wanted ≡ Text) × (kind
 ComesOfArray wanted item_type m (Err (NotReduced error)) = IsNotReduced wanted item_type m error
 ComesOfArray wanted item_type m (Err Memory) = Unit {0}
 ComesOfArray wanted item_type m (Err _) = ⊥
+
+-- Says that the result is what is wanted of the array after steps, or the step that was refused.
+abbrev pub ComesAfter : Wanted → ItemType → Result Items Refusal → Result (List ℕ) Fault → Type 0
+ComesAfter wanted item_type (Ok m) made = ComesOfArray wanted item_type m made
+ComesAfter wanted item_type (Err refusal) made = made ≡ Err (Refused refusal)
 
 -- Says that the result is this text, which is then known. Memory may run out.
 abbrev pub ComesOfText : Option (List ℕ) → Result (List ℕ) Fault → Type 0
@@ -48,10 +45,6 @@ ComesOfReduced reduced (Ok file) = reduced ≡ Ok file
 ComesOfReduced reduced (Err (NotReduced error)) = reduced ≡ Err error
 ComesOfReduced reduced (Err Memory) = Unit {0}
 ComesOfReduced reduced (Err _) = ⊥
-
--- Says that the result is the file of the array `m` of numbers. Memory may run out.
-abbrev pub ComesOfNumbers : {B : Type 0} → npy_item.Ghosts B → Kind → Meaning B → Result (List ℕ) Fault → Type 0
-ComesOfNumbers item kind m result = ComesOfReduced (Ok (numbers_written item kind m)) result
 
 -- Says that the words are no list of steps.
 abbrev pub AreNoNpySteps : List (List ℕ) → Type 0
@@ -163,9 +156,3 @@ module _ {R W E : Type 0} (remaining : R → Option (List ℕ)) (contents : W �
       × Appends (contents (watched_inner output)) (contents (watched_inner output')) (npy_output_text made)
       × Appends (reports (watched_inner errors)) (reports (watched_inner errors')) (npy_errors_text false made)
       × (status ≡ npy_status_after made)
-
-module _ {S D T R : Type 0} {s : data_trait.Ghosts S (List ℕ)} {d : dimension.Ghosts D R} {n : axis_count.Ghosts D} {r : stride_list.Ghosts R} {t : stride_list.Ghosts T} where
-  -- Says that the result is the file of what `made` gives for the values of each lane of an array of items. Memory may run
-  -- out.
-  abbrev pub ComesOfLanes : {A B : Type 0} → npy_item.Ghosts B → Kind → (List A → B) → (List ℕ → A) → ℕ → ArrayBase S D T (List ℕ) R s d n r t → Result (List ℕ) Fault → Type 0
-  ComesOfLanes item kind made value axis a result = ComesOfReduced (Ok (lanes_written item kind made value axis (meaning_of a))) result

@@ -100,6 +100,11 @@ lane_sum plus nought numbers = fold plus nought numbers
 abbrev pub mean_by : {A : Type 0} → (A → A → A) → (A → A → A) → A → (ℕ → A) → ℕ → List A → A
 mean_by plus over nought of_count count numbers = over (lane_sum plus nought numbers) (of_count count)
 
+-- Returns the mean of `count` numbers if the flag is true, and otherwise their sum.
+abbrev pub total_by : {A : Type 0} → Bool → (A → A → A) → (A → A → A) → A → (ℕ → A) → ℕ → List A → A
+total_by true plus over nought of_count count = mean_by plus over nought of_count count
+total_by false plus over nought of_count count = lane_sum plus nought
+
 -- Returns the mean of `count` floats in this format.
 abbrev pub mean_of : Format → ℕ → List Float → Float
 mean_of format count numbers = mean_by (add format) (div format) float_zero (λ n. of_int format (pos n)) count numbers
@@ -201,6 +206,14 @@ made_file Sum item_type axis m = sums_file axis m item_type.kind item_type.order
 made_file Mean item_type axis m = means_file axis m item_type.kind item_type.order
 made_file Min item_type axis m = ends_file axis m false item_type.kind item_type.order
 made_file Max item_type axis m = ends_file axis m true item_type.kind item_type.order
+
+-- Returns one of four results by what is made of the lanes. `ends` gives the one for the greatest elements if its flag is
+-- true, and otherwise the one for the least.
+abbrev pub by_reduction : {X : Type 0} → X → X → (Bool → X) → Reduction → X
+by_reduction sum mean ends Sum = sum
+by_reduction sum mean ends Mean = mean
+by_reduction sum mean ends Min = ends false
+by_reduction sum mean ends Max = ends true
 
 -- Returns whether nothing can be made of a lane without elements.
 abbrev pub wants_elements : Reduction → Bool

@@ -1,13 +1,12 @@
 //! The file of an array of items that is reduced along an axis: one element is made of each lane.
 
-ghost use Rattle.std.specs.Prelude.{◌≡◌, ◌<◌, IfOk, slice_index, length};
+ghost use Rattle.std.specs.Prelude.{◌≡◌, ◌<◌, Ok, IfOk, IsTrue, slice_index, length, true, false};
 ghost use Rattle.nd_shape_and_slice.specs.LayoutIndexMaps.{indexed_shape};
 ghost use Rattle.nd_array_core.specs.ArrayMeaning.{meaning_of, shape_of, element_at};
 ghost use Rattle.nd_npy_text.specs.ItemTypes.{kind_size};
 ghost use Rattle.nd_numeric.specs.LeastAndGreatest.{AreLaneEnds};
-ghost use Rattle.nd_numeric.specs.SumsProductsAndMeans.{HasMeans};
-ghost use Rattle.nd_npy_run.specs.OutputAndStatus.{bytes_made, ComesOfLanes, ComesOfNumbers, ComesOfReduced};
-ghost use Rattle.nd_npy_run.specs.Reductions.{lane_end, end_written, ends_file, kept_by, lanes_reduced, length_along, mean_by, means_file, read_as, reduced_file, lane_sum, sums_file, values_of};
+ghost use Rattle.nd_npy_run.specs.OutputAndStatus.{bytes_made, ComesOfReduced};
+ghost use Rattle.nd_npy_run.specs.Reductions.{by_reduction, lane_end, end_written, kept_by, lanes_reduced, lanes_written, length_along, made_file, numbers_written, read_as, reduced_file, total_by, wants_elements};
 
 use crate::conversions::Converts;
 use crate::item_numbers::{Items, numbers_of};
@@ -24,7 +23,7 @@ use std::alloc::Global;
 
 /// Returns the file of an array of numbers, or fails with `Memory` if memory is refused.
 fn written_file<B: NpyNumber>(alloc: Global, numbers: &ArrayD<B>) -> Result<Vec<u8>, Fault<'static>>
-    ensures { ComesOfNumbers B.NpyItem B.kind (meaning_of numbers.now) (bytes_made result) }
+    ensures { ComesOfReduced (Ok (numbers_written B.NpyItem B.kind (meaning_of numbers.now))) (bytes_made result) }
 {
     match npy_bytes(alloc, numbers) {
         Ok(file) => Ok(file),
@@ -32,50 +31,46 @@ fn written_file<B: NpyNumber>(alloc: Global, numbers: &ArrayD<B>) -> Result<Vec<
     }
 }
 
-/// Returns the file of the sums of the lanes along an axis.
-fn sums<A: Arithmetic + NpyNumber>(
+/// Returns the sum of each lane along an axis, or its mean, for which the axis must not have length 0.
+fn lane_totals<A: Arithmetic>(
     alloc: Global,
-    axis: Axis,
-    numbers: &ArrayD<A>,
-) -> Result<Vec<u8>, Fault<'static>>
-    requires { axis.0 < length (shape_of numbers.now) }
-    ensures { ComesOfNumbers A.NpyItem A.kind (lanes_reduced (lane_sum A.plus A.zero) axis.0 (meaning_of numbers.now)) (bytes_made result) }
-{
-    match sum_axis(alloc, numbers, axis) {
-        Ok(sums) => written_file(alloc, &sums),
-        Err(_) => Err(Fault::Memory),
-    }
-}
-
-/// Returns the mean of each lane along an axis, which must not have length 0.
-fn lane_means<A: Arithmetic>(
-    alloc: Global,
+    mean: bool,
     axis: Axis,
     numbers: &ArrayD<A>,
 ) -> Result<ArrayD<A>, NoMemory>
     requires axis { axis.0 < length (shape_of numbers.now) }
-    requires some { 0 < slice_index (shape_of numbers.now) axis.0 }
-    ensures shape { IfOk result (λ a. shape_of a ≡ indexed_shape (shape_of numbers.now) axis.0) }
-    ensures means { IfOk result (HasMeans A.plus A.over A.zero A.of_count numbers.now axis.0) }
+    requires some { IsTrue mean → 0 < slice_index (shape_of numbers.now) axis.0 }
+    ensures { IfOk result (λ a. meaning_of a ≡ lanes_reduced (total_by mean A.plus A.over A.zero A.of_count (slice_index (shape_of numbers.now) axis.0)) axis.0 (meaning_of numbers.now)) }
 {
-    match mean_axis(alloc, numbers, axis) {
-        Some(means) => means,
-        None => unreachable!(),
+    if mean {
+        match mean_axis(alloc, numbers, axis) {
+            Some(means) => means,
+            None => unreachable!(),
+        }
+    } else {
+        sum_axis(alloc, numbers, axis)
     }
 }
 
-/// Returns the file of the means of the lanes along an axis, which must not have length 0.
-fn means<A: Arithmetic + NpyNumber>(
+/// Returns the file of the sums of the lanes along an axis, or of their means, for which the axis must not have length
+/// 0. An item is a value of `I` and is added as an `A`.
+fn totals_file<I: NpyItem + Converts<A>, A: Arithmetic + NpyNumber, const N: usize>(
     alloc: Global,
+    order: ByteOrder,
+    mean: bool,
     axis: Axis,
-    numbers: &ArrayD<A>,
+    array: &Items<'_, N>,
 ) -> Result<Vec<u8>, Fault<'static>>
-    requires axis { axis.0 < length (shape_of numbers.now) }
-    requires some { 0 < slice_index (shape_of numbers.now) axis.0 }
-    ensures { ComesOfNumbers A.NpyItem A.kind (lanes_reduced (mean_by A.plus A.over A.zero A.of_count (slice_index (shape_of numbers.now) axis.0)) axis.0 (meaning_of numbers.now)) (bytes_made result) }
+    requires size { I.size ≡ N }
+    requires axis { axis.0 < length (shape_of array.now) }
+    requires some { IsTrue mean → 0 < length_along array.now axis.0 }
+    ensures { ComesOfReduced (Ok (lanes_written A.NpyItem A.kind (total_by mean A.plus A.over A.zero A.of_count (length_along array.now axis.0)) (read_as I.NpyItem I.converted order) axis.0 (meaning_of array.now))) (bytes_made result) }
 {
-    match lane_means(alloc, axis, numbers) {
-        Ok(means) => written_file(alloc, &means),
+    match numbers_of::<I, A, N>(alloc, order, array) {
+        Ok(numbers) => match lane_totals(alloc, mean, axis, &numbers) {
+            Ok(totals) => written_file(alloc, &totals),
+            Err(_) => Err(Fault::Memory),
+        },
         Err(_) => Err(Fault::Memory),
     }
 }
@@ -108,138 +103,29 @@ fn written_end<I, A: Zero + Converts<I>>(end: Option<A>) -> I
     }
 }
 
-/// Returns the file of what is kept of each lane, or of 0 where that is nothing.
-fn ends_file<I: NpyNumber, A: Zero + Converts<I>>(
+/// Returns the greatest element of each lane along an axis, or the least one, as an item of type `I`.
+fn written_ends<I, A: Ordered + Zero + Converts<I>>(
     alloc: Global,
-    ends: &ArrayD<Option<A>>,
-) -> Result<Vec<u8>, Fault<'static>>
-    ensures { ComesOfNumbers I.NpyItem I.kind (values_of (end_written A.converted A.zero) (meaning_of ends.now)) (bytes_made result) }
+    greatest: bool,
+    axis: Axis,
+    numbers: &ArrayD<A>,
+) -> Result<ArrayD<I>, NoMemory>
+    requires { axis.0 < length (shape_of numbers.now) }
+    ensures { IfOk result (λ a. meaning_of a ≡ lanes_reduced (λ xs. A.converted (lane_end greatest A.order A.zero xs)) axis.0 (meaning_of numbers.now)) }
 {
+    let ends = lane_ends(alloc, greatest, axis, numbers)?;
     let written = ends.map(
         alloc,
         |end|
             ensures { result ≡ end_written A.converted A.zero end.now }
         { written_end::<I, A>(*end) },
-    );
-    match written {
-        Ok(written) => written_file(alloc, &written),
-        Err(_) => Err(Fault::Memory),
-    }
+    )?;
+    Ok(written)
 }
 
-/// Returns the file of the greatest elements of the lanes along an axis, or of the least ones. They are written as items
-/// of type `I`.
-fn ends<I: NpyNumber, A: Ordered + Zero + Converts<I>>(
-    alloc: Global,
-    greatest: bool,
-    axis: Axis,
-    numbers: &ArrayD<A>,
-) -> Result<Vec<u8>, Fault<'static>>
-    requires { axis.0 < length (shape_of numbers.now) }
-    ensures { ComesOfNumbers I.NpyItem I.kind (lanes_reduced (λ xs. A.converted (lane_end greatest A.order A.zero xs)) axis.0 (meaning_of numbers.now)) (bytes_made result) }
-{
-    match lane_ends(alloc, greatest, axis, numbers) {
-        Ok(ends) => ends_file::<I, A>(alloc, &ends),
-        Err(_) => Err(Fault::Memory),
-    }
-}
-
-/// Returns the file of the sums of the lanes along an axis, where an item is a value of `I` and is added as an `A`.
-fn sums_as<I: NpyItem + Converts<A>, A: Arithmetic + NpyNumber, const N: usize>(
-    alloc: Global,
-    order: ByteOrder,
-    axis: Axis,
-    array: &Items<'_, N>,
-) -> Result<Vec<u8>, Fault<'static>>
-    requires size { I.size ≡ N }
-    requires axis { axis.0 < length (shape_of array.now) }
-    ensures { ComesOfLanes A.NpyItem A.kind (lane_sum A.plus A.zero) (read_as I.NpyItem I.converted order) axis.0 array.now (bytes_made result) }
-{
-    match numbers_of::<I, A, N>(alloc, order, array) {
-        Ok(numbers) => sums(alloc, axis, &numbers),
-        Err(_) => Err(Fault::Memory),
-    }
-}
-
-/// Returns the file of the sums of the lanes along an axis.
-fn sums_bytes<const N: usize>(
-    alloc: Global,
-    item_type: ItemType,
-    axis: Axis,
-    array: &Items<'_, N>,
-) -> Result<Vec<u8>, Fault<'static>>
-    requires size { kind_size item_type.kind ≡ N }
-    requires axis { axis.0 < length (shape_of array.now) }
-    ensures { ComesOfReduced (sums_file axis.0 (meaning_of array.now) item_type.kind item_type.order) (bytes_made result) }
-{
-    let order = item_type.order;
-    match item_type.kind {
-        Kind::Bool => sums_as::<bool, i64, N>(alloc, order, axis, array),
-        Kind::Int8 => sums_as::<i8, i64, N>(alloc, order, axis, array),
-        Kind::Int16 => sums_as::<i16, i64, N>(alloc, order, axis, array),
-        Kind::Int32 => sums_as::<i32, i64, N>(alloc, order, axis, array),
-        Kind::Int64 => sums_as::<i64, i64, N>(alloc, order, axis, array),
-        Kind::UInt8 => sums_as::<u8, u64, N>(alloc, order, axis, array),
-        Kind::UInt16 => sums_as::<u16, u64, N>(alloc, order, axis, array),
-        Kind::UInt32 => sums_as::<u32, u64, N>(alloc, order, axis, array),
-        Kind::UInt64 => sums_as::<u64, u64, N>(alloc, order, axis, array),
-        Kind::Float32 => sums_as::<f32, f32, N>(alloc, order, axis, array),
-        Kind::Float64 => sums_as::<f64, f64, N>(alloc, order, axis, array),
-        kind => Err(Fault::NotReduced(ReductionError::NoNumbers(kind))),
-    }
-}
-
-/// Returns the file of the means of the lanes along an axis, which must not have length 0. An item is a value of `I` and
-/// is added as an `A`.
-fn means_as<I: NpyItem + Converts<A>, A: Arithmetic + NpyNumber, const N: usize>(
-    alloc: Global,
-    order: ByteOrder,
-    axis: Axis,
-    array: &Items<'_, N>,
-) -> Result<Vec<u8>, Fault<'static>>
-    requires size { I.size ≡ N }
-    requires axis { axis.0 < length (shape_of array.now) }
-    requires some { 0 < slice_index (shape_of array.now) axis.0 }
-    ensures { ComesOfLanes A.NpyItem A.kind (mean_by A.plus A.over A.zero A.of_count (length_along array.now axis.0)) (read_as I.NpyItem I.converted order) axis.0 array.now (bytes_made result) }
-{
-    match numbers_of::<I, A, N>(alloc, order, array) {
-        Ok(numbers) => means(alloc, axis, &numbers),
-        Err(_) => Err(Fault::Memory),
-    }
-}
-
-/// Returns the file of the means of the lanes along an axis, which must not have length 0.
-fn means_bytes<const N: usize>(
-    alloc: Global,
-    item_type: ItemType,
-    axis: Axis,
-    array: &Items<'_, N>,
-) -> Result<Vec<u8>, Fault<'static>>
-    requires size { kind_size item_type.kind ≡ N }
-    requires axis { axis.0 < length (shape_of array.now) }
-    requires some { 0 < slice_index (shape_of array.now) axis.0 }
-    ensures { ComesOfReduced (means_file axis.0 (meaning_of array.now) item_type.kind item_type.order) (bytes_made result) }
-{
-    let order = item_type.order;
-    match item_type.kind {
-        Kind::Bool => means_as::<bool, f64, N>(alloc, order, axis, array),
-        Kind::Int8 => means_as::<i8, f64, N>(alloc, order, axis, array),
-        Kind::Int16 => means_as::<i16, f64, N>(alloc, order, axis, array),
-        Kind::Int32 => means_as::<i32, f64, N>(alloc, order, axis, array),
-        Kind::Int64 => means_as::<i64, f64, N>(alloc, order, axis, array),
-        Kind::UInt8 => means_as::<u8, f64, N>(alloc, order, axis, array),
-        Kind::UInt16 => means_as::<u16, f64, N>(alloc, order, axis, array),
-        Kind::UInt32 => means_as::<u32, f64, N>(alloc, order, axis, array),
-        Kind::UInt64 => means_as::<u64, f64, N>(alloc, order, axis, array),
-        Kind::Float32 => means_as::<f32, f32, N>(alloc, order, axis, array),
-        Kind::Float64 => means_as::<f64, f64, N>(alloc, order, axis, array),
-        kind => Err(Fault::NotReduced(ReductionError::NoNumbers(kind))),
-    }
-}
-
-/// Returns the file of the greatest elements of the lanes along an axis, or of the least ones. An item is a value of `I`
-/// and is compared as an `A`.
-fn ends_as<I: NpyNumber + Converts<A>, A: Ordered + Zero + Converts<I>, const N: usize>(
+/// Returns the file of the greatest elements of the lanes along an axis, or of the least ones. An item is a value of
+/// `I` and is compared as an `A`.
+fn ends_file<I: NpyNumber + Converts<A>, A: Ordered + Zero + Converts<I>, const N: usize>(
     alloc: Global,
     order: ByteOrder,
     greatest: bool,
@@ -248,39 +134,75 @@ fn ends_as<I: NpyNumber + Converts<A>, A: Ordered + Zero + Converts<I>, const N:
 ) -> Result<Vec<u8>, Fault<'static>>
     requires size { I.size ≡ N }
     requires axis { axis.0 < length (shape_of array.now) }
-    ensures { ComesOfLanes I.NpyItem I.kind (λ xs. A.converted (lane_end greatest A.order A.zero xs)) (read_as I.NpyItem I.converted order) axis.0 array.now (bytes_made result) }
+    ensures { ComesOfReduced (Ok (lanes_written I.NpyItem I.kind (λ xs. A.converted (lane_end greatest A.order A.zero xs)) (read_as I.NpyItem I.converted order) axis.0 (meaning_of array.now))) (bytes_made result) }
 {
     match numbers_of::<I, A, N>(alloc, order, array) {
-        Ok(numbers) => ends::<I, A>(alloc, greatest, axis, &numbers),
+        Ok(numbers) => match written_ends::<I, A>(alloc, greatest, axis, &numbers) {
+            Ok(ends) => written_file(alloc, &ends),
+            Err(_) => Err(Fault::Memory),
+        },
         Err(_) => Err(Fault::Memory),
     }
 }
 
-/// Returns the file of the greatest elements of the lanes along an axis, or of the least ones.
-fn ends_bytes<const N: usize>(
+/// Returns the file of what is made of the lanes along an axis. An item is a value of `I`; for a sum it is added as an
+/// `S`, for a mean as an `M`, and otherwise it is compared as an `E`.
+fn reduced_as<I, S, M, E, const N: usize>(
+    alloc: Global,
+    order: ByteOrder,
+    reduction: Reduction,
+    axis: Axis,
+    array: &Items<'_, N>,
+) -> Result<Vec<u8>, Fault<'static>>
+where
+    I: NpyNumber + Converts<S> + Converts<M> + Converts<E>,
+    S: Arithmetic + NpyNumber,
+    M: Arithmetic + NpyNumber,
+    E: Ordered + Zero + Converts<I>,
+    requires size { I.size ≡ N }
+    requires axis { axis.0 < length (shape_of array.now) }
+    requires some { IsTrue (wants_elements reduction) → 0 < length_along array.now axis.0 }
+    ensures { ComesOfReduced (by_reduction
+        (Ok (lanes_written S.NpyItem S.kind (total_by false S.plus S.over S.zero S.of_count (length_along array.now axis.0)) (read_as I.NpyItem ⟦<I as Converts<S>>⟧.converted order) axis.0 (meaning_of array.now)))
+        (Ok (lanes_written M.NpyItem M.kind (total_by true M.plus M.over M.zero M.of_count (length_along array.now axis.0)) (read_as I.NpyItem ⟦<I as Converts<M>>⟧.converted order) axis.0 (meaning_of array.now)))
+        (λ greatest. Ok (lanes_written I.NpyItem I.kind (λ xs. E.converted (lane_end greatest E.order E.zero xs)) (read_as I.NpyItem ⟦<I as Converts<E>>⟧.converted order) axis.0 (meaning_of array.now)))
+        reduction) (bytes_made result) }
+{
+    match reduction {
+        Reduction::Sum => totals_file::<I, S, N>(alloc, order, false, axis, array),
+        Reduction::Mean => totals_file::<I, M, N>(alloc, order, true, axis, array),
+        Reduction::Min => ends_file::<I, E, N>(alloc, order, false, axis, array),
+        Reduction::Max => ends_file::<I, E, N>(alloc, order, true, axis, array),
+    }
+}
+
+/// Returns the file of what is made of the lanes along an axis, which must not have length 0 if something is wanted of
+/// its elements.
+fn lanes_bytes<const N: usize>(
     alloc: Global,
     item_type: ItemType,
-    greatest: bool,
+    reduction: Reduction,
     axis: Axis,
     array: &Items<'_, N>,
 ) -> Result<Vec<u8>, Fault<'static>>
     requires size { kind_size item_type.kind ≡ N }
     requires axis { axis.0 < length (shape_of array.now) }
-    ensures { ComesOfReduced (ends_file axis.0 (meaning_of array.now) greatest item_type.kind item_type.order) (bytes_made result) }
+    requires some { IsTrue (wants_elements reduction) → 0 < length_along array.now axis.0 }
+    ensures { ComesOfReduced (made_file reduction item_type axis.0 (meaning_of array.now)) (bytes_made result) }
 {
     let order = item_type.order;
     match item_type.kind {
-        Kind::Bool => ends_as::<bool, u8, N>(alloc, order, greatest, axis, array),
-        Kind::Int8 => ends_as::<i8, i8, N>(alloc, order, greatest, axis, array),
-        Kind::Int16 => ends_as::<i16, i16, N>(alloc, order, greatest, axis, array),
-        Kind::Int32 => ends_as::<i32, i32, N>(alloc, order, greatest, axis, array),
-        Kind::Int64 => ends_as::<i64, i64, N>(alloc, order, greatest, axis, array),
-        Kind::UInt8 => ends_as::<u8, u8, N>(alloc, order, greatest, axis, array),
-        Kind::UInt16 => ends_as::<u16, u16, N>(alloc, order, greatest, axis, array),
-        Kind::UInt32 => ends_as::<u32, u32, N>(alloc, order, greatest, axis, array),
-        Kind::UInt64 => ends_as::<u64, u64, N>(alloc, order, greatest, axis, array),
-        Kind::Float32 => ends_as::<f32, f32, N>(alloc, order, greatest, axis, array),
-        Kind::Float64 => ends_as::<f64, f64, N>(alloc, order, greatest, axis, array),
+        Kind::Bool => reduced_as::<bool, i64, f64, u8, N>(alloc, order, reduction, axis, array),
+        Kind::Int8 => reduced_as::<i8, i64, f64, i8, N>(alloc, order, reduction, axis, array),
+        Kind::Int16 => reduced_as::<i16, i64, f64, i16, N>(alloc, order, reduction, axis, array),
+        Kind::Int32 => reduced_as::<i32, i64, f64, i32, N>(alloc, order, reduction, axis, array),
+        Kind::Int64 => reduced_as::<i64, i64, f64, i64, N>(alloc, order, reduction, axis, array),
+        Kind::UInt8 => reduced_as::<u8, u64, f64, u8, N>(alloc, order, reduction, axis, array),
+        Kind::UInt16 => reduced_as::<u16, u64, f64, u16, N>(alloc, order, reduction, axis, array),
+        Kind::UInt32 => reduced_as::<u32, u64, f64, u32, N>(alloc, order, reduction, axis, array),
+        Kind::UInt64 => reduced_as::<u64, u64, f64, u64, N>(alloc, order, reduction, axis, array),
+        Kind::Float32 => reduced_as::<f32, f32, f32, f32, N>(alloc, order, reduction, axis, array),
+        Kind::Float64 => reduced_as::<f64, f64, f64, f64, N>(alloc, order, reduction, axis, array),
         kind => Err(Fault::NotReduced(ReductionError::NoNumbers(kind))),
     }
 }
@@ -306,10 +228,5 @@ pub(crate) fn reduced_bytes<const N: usize>(
     if reduction.lacks_elements(array.len_of(lanes)) {
         return Err(Fault::NotReduced(ReductionError::NoElements { axis }));
     }
-    match reduction {
-        Reduction::Sum => sums_bytes(alloc, item_type, lanes, array),
-        Reduction::Mean => means_bytes(alloc, item_type, lanes, array),
-        Reduction::Min => ends_bytes(alloc, item_type, false, lanes, array),
-        Reduction::Max => ends_bytes(alloc, item_type, true, lanes, array),
-    }
+    lanes_bytes(alloc, item_type, reduction, lanes, array)
 }

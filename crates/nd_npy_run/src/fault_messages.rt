@@ -1,6 +1,6 @@
 //! What the program writes of a fault.
 
-ghost use Rattle.std.specs.Prelude.{◌≡◌};
+ghost use Rattle.std.specs.Prelude.{◌≡◌, ◌++◌};
 ghost use Rattle.std.specs.Fmt.{decimal};
 ghost use Rattle.nd_npy_text.specs.ErrorTexts.{header_error_text};
 ghost use Rattle.nd_npy_text.specs.declared.errors.HeaderError.TheVariants.{BadByte, UnknownVersion};
@@ -24,6 +24,36 @@ fn put_count<W: Write>(output: &mut Watched<W>, page: &mut Page, number: usize)
     put_number(output, page, &mut Buffer::new(), &number);
 }
 
+/// Writes a number between two texts. All is buffered in `page`.
+fn put_counted<W: Write>(
+    output: &mut Watched<W>,
+    page: &mut Page,
+    before: &[u8],
+    number: usize,
+    after: &[u8],
+)
+    ensures { Puts W.contents output.old page.old output.new page.new (before.now ++ (decimal number ++ after.now)) }
+{
+    put(output, page, before);
+    put_count(output, page, number);
+    put(output, page, after);
+}
+
+/// Writes a word between two texts. All is buffered in `page`.
+fn put_between<W: Write>(
+    output: &mut Watched<W>,
+    page: &mut Page,
+    before: &[u8],
+    word: &[u8],
+    after: &[u8],
+)
+    ensures { Puts W.contents output.old page.old output.new page.new (before.now ++ (word.now ++ after.now)) }
+{
+    put(output, page, before);
+    put(output, page, word);
+    put(output, page, after);
+}
+
 /// Returns what has to follow a word that begins a step, that none begins so, or where the name of a reduction stands.
 fn word_needs(word: &[u8]) -> &'static str
     ensures { result.now ≡ word_needs_text word.now }
@@ -39,32 +69,23 @@ fn word_needs(word: &[u8]) -> &'static str
 fn put_step<W: Write>(output: &mut Watched<W>, page: &mut Page, number: usize, word: &[u8])
     ensures { Puts W.contents output.old page.old output.new page.new (bad_step_line number word.now) }
 {
-    put(output, page, b"step ");
-    put_count(output, page, number);
-    put(output, page, b" '");
-    put(output, page, word);
-    put(output, page, b"': ");
-    put(output, page, word_needs(word).as_bytes());
+    put_counted(output, page, b"step ", number, b" '");
+    put_between(output, page, word, b"': ", word_needs(word).as_bytes());
 }
 
 /// Writes that a version of the format isn't known, buffered in `page`.
 fn put_version<W: Write>(output: &mut Watched<W>, page: &mut Page, major: u8, minor: u8)
     ensures { Puts W.contents output.old page.old output.new page.new (header_error_text (UnknownVersion major minor)) }
 {
-    put(output, page, b"the version ");
-    put_number(output, page, &mut Buffer::new(), &major);
-    put(output, page, b".");
-    put_number(output, page, &mut Buffer::new(), &minor);
-    put(output, page, b" isn't known");
+    put_counted(output, page, b"the version ", usize::from(major), b".");
+    put_counted(output, page, b"", usize::from(minor), b" isn't known");
 }
 
 /// Writes which byte of a head is wrong, and why. All is buffered in `page`.
 fn put_bad_byte<W: Write>(output: &mut Watched<W>, page: &mut Page, byte: usize, flaw: HeaderFlaw)
     ensures { Puts W.contents output.old page.old output.new page.new (header_error_text (BadByte byte flaw)) }
 {
-    put(output, page, b"byte ");
-    put_count(output, page, byte);
-    put(output, page, b": ");
+    put_counted(output, page, b"byte ", byte, b": ");
     put(output, page, flaw.text().as_bytes());
 }
 
@@ -86,20 +107,21 @@ fn put_head_error<W: Write>(output: &mut Watched<W>, page: &mut Page, error: Hea
 fn put_size<W: Write>(output: &mut Watched<W>, page: &mut Page, expected: usize, found: usize)
     ensures { Puts W.contents output.old page.old output.new page.new (size_line expected found) }
 {
-    put(output, page, b"the elements take ");
-    put_count(output, page, expected);
-    put(output, page, b" bytes, but ");
-    put_count(output, page, found);
-    put(output, page, b" bytes follow the head");
+    put_counted(
+        output,
+        page,
+        b"the elements take ",
+        expected,
+        b" bytes, but ",
+    );
+    put_counted(output, page, b"", found, b" bytes follow the head");
 }
 
 /// Writes which step is refused, and why. All is buffered in `page`.
 fn put_refusal<W: Write>(output: &mut Watched<W>, page: &mut Page, refusal: Refusal)
     ensures { Puts W.contents output.old page.old output.new page.new (step_refusal_text refusal) }
 {
-    put(output, page, b"step ");
-    put_count(output, page, refusal.number);
-    put(output, page, b": ");
+    put_counted(output, page, b"step ", refusal.number, b": ");
     put(output, page, cause_told(refusal.cause).as_bytes());
 }
 
@@ -107,9 +129,13 @@ fn put_refusal<W: Write>(output: &mut Watched<W>, page: &mut Page, refusal: Refu
 fn put_no_text<W: Write>(output: &mut Watched<W>, page: &mut Page, kind: Kind)
     ensures { Puts W.contents output.old page.old output.new page.new (no_text_line kind) }
 {
-    put(output, page, b"elements of the kind ");
-    put(output, page, kind.code());
-    put(output, page, b" can't be printed");
+    put_between(
+        output,
+        page,
+        b"elements of the kind ",
+        kind.code(),
+        b" can't be printed",
+    );
 }
 
 /// Writes why an array can't be reduced along an axis. All is buffered in `page`.
@@ -118,9 +144,13 @@ fn put_reduction<W: Write>(output: &mut Watched<W>, page: &mut Page, error: Redu
 {
     match error {
         ReductionError::NoAxis { axis, axes } => {
-            put(output, page, b"there is no axis ");
-            put_count(output, page, axis);
-            put(output, page, b", because the number of axes is ");
+            put_counted(
+                output,
+                page,
+                b"there is no axis ",
+                axis,
+                b", because the number of axes is ",
+            );
             put_count(output, page, axes);
         }
         ReductionError::NoElements { axis } => {
@@ -128,9 +158,13 @@ fn put_reduction<W: Write>(output: &mut Watched<W>, page: &mut Page, error: Redu
             put_count(output, page, axis);
         }
         ReductionError::NoNumbers(kind) => {
-            put(output, page, b"elements of the kind ");
-            put(output, page, kind.code());
-            put(output, page, b" can't be reduced");
+            put_between(
+                output,
+                page,
+                b"elements of the kind ",
+                kind.code(),
+                b" can't be reduced",
+            );
         }
     }
 }

@@ -1,13 +1,15 @@
 //! What the program writes for a line of steps and the bytes of the input: a file, or the reason why there is none.
 
-ghost use Rattle.std.specs.Prelude.{◌≡◌, map, IsTrue};
+ghost use Rattle.std.specs.Prelude.{◌≡◌, ◌≤◌, drop, length, map, IsTrue};
 ghost use Rattle.std.specs.Result.{result_map_both};
 ghost use Rattle.nd_text.specs.LinesAndWords.{words_of};
-ghost use Rattle.nd_text.specs.WatchedReadersAndWriters.{watched_failed, watched_retried};
+ghost use Rattle.nd_text.specs.WatchedReadersAndWriters.{watched_retried};
 ghost use Rattle.nd_array_core.specs.ArrayMeaning.{meaning_of};
+ghost use Rattle.nd_npy_text.specs.ItemTypes.{kind_size};
 ghost use Rattle.nd_npy_run.specs.ViewSelectAndReshapeSteps.{asked_npy_step, are_viewed};
 ghost use Rattle.nd_npy_run.specs.FilesAfterSteps.{HasItems, ReadsItems};
-ghost use Rattle.nd_npy_run.specs.OutputAndStatus.{bytes_made, ComesOfReader, ComesOfSteps, is_npy_failed_read, AreNoNpySteps, IsInputReadFor};
+ghost use Rattle.nd_npy_run.specs.StepListResults.{rest_of_steps};
+ghost use Rattle.nd_npy_run.specs.OutputAndStatus.{bytes_made, ComesAfter, ComesOfReader, ComesOfSteps, AreNoNpySteps, IsInputReadFor};
 
 use crate::reduction::ReductionError;
 use crate::steps::{
@@ -95,6 +97,28 @@ fn array_in<const N: usize>(
     }
 }
 
+/// Returns what is wanted of the array that a view shows, after the steps that follow the first `done` ones. They must
+/// all lead to views.
+fn wanted_after<const N: usize>(
+    alloc: Global,
+    wanted: Wanted,
+    item_type: ItemType,
+    view: ArrayViewD<'_, [u8; N]>,
+    steps: &[NpyStep],
+    done: usize,
+) -> Result<Vec<u8>, Fault<'static>>
+    requires size { kind_size item_type.kind ≡ N }
+    requires few { done ≤ length steps.now }
+    requires views { IsTrue (are_viewed (drop done (map asked_npy_step steps.now))) }
+    ensures { ComesAfter wanted item_type (rest_of_steps done (map asked_npy_step steps.now) (meaning_of view.entry)) (bytes_made result) }
+{
+    let mut view = view;
+    match follow_steps(&mut view, steps, done) {
+        Ok(()) => wanted_bytes(alloc, wanted, item_type, &view),
+        Err(refusal) => Err(Fault::Refused(refusal)),
+    }
+}
+
 /// Returns what is wanted of the array after the steps, none of which copies elements. All of them are taken on a view of
 /// the items where they lie in `bytes`.
 fn turned_by_views<const N: usize>(
@@ -108,13 +132,9 @@ fn turned_by_views<const N: usize>(
     requires views { IsTrue (are_viewed (map asked_npy_step steps.now)) }
     ensures { ComesOfSteps wanted (map asked_npy_step steps.now) bytes.now (bytes_made result) }
 {
-    let mut view = match items_in::<N>(alloc, item_type, bytes) {
-        Ok(view) => view,
-        Err(fault) => return Err(fault),
-    };
-    match follow_steps(&mut view, steps, 0) {
-        Ok(()) => wanted_bytes(alloc, wanted, item_type, &view),
-        Err(refusal) => Err(Fault::Refused(refusal)),
+    match items_in::<N>(alloc, item_type, bytes) {
+        Ok(view) => wanted_after(alloc, wanted, item_type, view, steps, 0),
+        Err(fault) => Err(fault),
     }
 }
 
@@ -134,15 +154,10 @@ fn turned_by_copies<const N: usize>(
         Err(fault) => return Err(fault),
     };
     let done = copying_steps(steps);
-    let array = match take_steps(alloc, array, steps, done) {
-        Ok(array) => array,
-        Err(NpyStepsError::Refused(refusal)) => return Err(Fault::Refused(refusal)),
-        Err(NpyStepsError::Memory) => return Err(Fault::Memory),
-    };
-    let mut view = array.view();
-    match follow_steps(&mut view, steps, done) {
-        Ok(()) => wanted_bytes(alloc, wanted, item_type, &view),
-        Err(refusal) => Err(Fault::Refused(refusal)),
+    match take_steps(alloc, array, steps, done) {
+        Ok(array) => wanted_after(alloc, wanted, item_type, array.view(), steps, done),
+        Err(NpyStepsError::Refused(refusal)) => Err(Fault::Refused(refusal)),
+        Err(NpyStepsError::Memory) => Err(Fault::Memory),
     }
 }
 
@@ -197,7 +212,6 @@ pub(crate) fn produce<'a, R: Read>(
     input: &mut Watched<R>,
 ) -> Result<Vec<u8>, Fault<'a>>
     ensures made { ComesOfReader R.remaining wanted (words_of line.now) input.old (bytes_made result) }
-    ensures failed { IsTrue (is_npy_failed_read result) → IsTrue (watched_failed input.new) }
     ensures reads { IsInputReadFor input.old input.new result }
     ensures unread { AreNoNpySteps (words_of line.now) → input.new ≡ input.old }
     ensures stops { watched_retried input.new ≡ watched_retried input.old }

@@ -10,8 +10,8 @@ ghost use Rattle.nd_npy_run.specs.declared.wanted_outputs.Wanted.TheVariants.{Te
 
 use crate::item_numbers::{Items, numbers_of};
 use crate::output_or_fault::Fault;
+use nd_array_core::ArrayD;
 use nd_array_core::laws::elements_by_rank;
-use nd_array_core::{ArrayD, NoMemory};
 use nd_npy::NpyItem;
 use nd_npy_text::{ByteOrder, ItemType, Kind};
 use std::alloc::{AllocError, Global};
@@ -24,33 +24,19 @@ fn text_of<A: Display>(alloc: Global, values: &ArrayD<A>) -> Result<String, Allo
     format!(in alloc; "{values}")
 }
 
-/// Returns the bytes of a text and a line feed.
-fn line_of(text: String) -> Result<Vec<u8>, AllocError>
-    ensures { IfOk result (λ v. v.items ≡ string_bytes text ++ codes "\n") }
+/// Returns the bytes of a text and a line feed, or fails with `Memory` if memory is refused.
+fn line_of(text: String) -> Result<Vec<u8>, Fault<'static>>
+    ensures { ComesOfText (Some (string_bytes text ++ codes "\n")) (bytes_made result) }
 {
     let mut line = text;
-    line.push_str("\n")?;
-    Ok(line.into_bytes())
+    match line.push_str("\n") {
+        Ok(()) => Ok(line.into_bytes()),
+        Err(_) => Err(Fault::Memory),
+    }
 }
 
-/// Returns the text of an array whose items are values of `A`, and a line feed. Each value must have a known text.
-fn text_bytes<A: NpyItem + Display, const N: usize>(
-    alloc: Global,
-    order: ByteOrder,
-    array: &Items<'_, N>,
-) -> Result<Vec<u8>, NoMemory>
-    requires size { A.size ≡ N }
-    requires known { (x : A) → IsTrue (is_some (A.output x)) }
-    ensures { IfOk result (λ v. printed_as (λ bytes. A.output (A.value_of order bytes)) (meaning_of array.now) ≡ Some v.items) }
-{
-    elements_by_rank(array);
-    let values = numbers_of::<A, A, N>(alloc, order, array)?;
-    let text = text_of(alloc, &values)?;
-    let line = line_of(text)?;
-    Ok(line)
-}
-
-/// Does what `text_bytes` does, and fails with `Memory` if memory is refused.
+/// Returns the text of an array whose items are values of `A`, and a line feed, or fails with `Memory` if memory is
+/// refused. Each value must have a known text.
 fn printed_as<A: NpyItem + Display, const N: usize>(
     alloc: Global,
     order: ByteOrder,
@@ -60,8 +46,12 @@ fn printed_as<A: NpyItem + Display, const N: usize>(
     requires known { (x : A) → IsTrue (is_some (A.output x)) }
     ensures { ComesOfText (printed_as (λ bytes. A.output (A.value_of order bytes)) (meaning_of array.now)) (bytes_made result) }
 {
-    match text_bytes::<A, N>(alloc, order, array) {
-        Ok(text) => Ok(text),
+    elements_by_rank(array);
+    match numbers_of::<A, A, N>(alloc, order, array) {
+        Ok(values) => match text_of(alloc, &values) {
+            Ok(text) => line_of(text),
+            Err(_) => Err(Fault::Memory),
+        },
         Err(_) => Err(Fault::Memory),
     }
 }

@@ -79,7 +79,6 @@ fn fault_status(fault: Fault<'_>) -> u8
 }
 
 /// Does what `drive` does, and returns the exit status, but without a test for failed calls of the streams.
-#[tactic(auto, using(crate::proofs::ErrorLinesFlushed::read_fault))]
 fn drive_on<R: Read, W: Write, E: Write>(
     alloc: Global,
     wanted: Wanted,
@@ -110,6 +109,13 @@ fn drive_on<R: Read, W: Write, E: Write>(
     }
 }
 
+/// Returns whether a call of one of the three streams failed.
+fn any_failed<R, W, E>(input: &Watched<R>, output: &Watched<W>, errors: &Watched<E>) -> bool
+    ensures { result ≡ (watched_failed input.now || watched_failed output.now || watched_failed errors.now) }
+{
+    input.failed() || output.failed() || errors.failed()
+}
+
 /// Reads a `.npy` file to the end of `input`, takes its array through the steps that the words of `line` write, and
 /// writes what is wanted of the array after them to `output`: its file, in row-major order and with the same type of
 /// elements; a line that describes it; a line with its shape; its text, whose elements must be integers or truth
@@ -118,7 +124,6 @@ fn drive_on<R: Read, W: Write, E: Write>(
 /// instead, which tells the first cause. If the words are no steps, no byte is read. Returns the exit status: 0; 1 for
 /// such a cause; 2 if memory was refused; 3 if a call of a stream failed. With status 3 only a beginning of what was due
 /// may be written: nothing of a file if it was a read that failed. A line on `errors` then tells a failed read or write.
-#[tactic(auto, using(crate::proofs::ErrorLinesFlushed::line_flushed, crate::proofs::ErrorLinesFlushed::line_flushed_failing, crate::proofs::ErrorLinesFlushed::written_whole))]
 pub fn drive<R: Read, W: Write, E: Write>(
     alloc: Global,
     wanted: Wanted,
@@ -141,7 +146,7 @@ pub fn drive<R: Read, W: Write, E: Write>(
     ensures flushed_errors { 0 < result → GetsFlushed errors.old errors.new }
 {
     let status = drive_on(alloc, wanted, line, input, output, errors);
-    if input.failed() || output.failed() || errors.failed() {
+    if any_failed(input, output, errors) {
         return 3;
     }
     status

@@ -1,25 +1,27 @@
 //! What the program writes of the array after the steps.
 
-ghost use Rattle.std.specs.Prelude.{◌≡◌, ◌≤◌, ◌++◌, codes, false, drop, length, IfOk};
+ghost use Rattle.std.specs.Prelude.{◌≡◌, ◌≤◌, ◌++◌, codes, false, drop, length, Some};
 ghost use Rattle.nd_text.specs.LinesAndWords.{words_of};
 ghost use Rattle.nd_array_core.specs.ArrayMeaning.{meaning_of};
 ghost use Rattle.nd_npy_text.specs.HeaderDescription.{described};
 ghost use Rattle.nd_npy_text.specs.ItemTypes.{kind_size};
 ghost use Rattle.nd_npy_text.specs.HeaderWriting.{padded, roomy_text, tuple_text};
-ghost use Rattle.nd_npy_run.specs.OutputAndStatus.{bytes_made, ComesOfArray};
+ghost use Rattle.nd_npy_run.specs.FilesAfterSteps.{file_text};
+ghost use Rattle.nd_npy_run.specs.OutputAndStatus.{bytes_made, ComesOfArray, ComesOfText};
 ghost use Rattle.nd_npy_run.specs.UsageAndArguments.{asked_of, wanted_by, wanted_named, step_words};
 
 use crate::arrays_reduced_along_axis::reduced_bytes;
+use crate::item_numbers::Items;
 use crate::output_or_fault::Fault;
 use crate::printed_arrays::printed_bytes;
 use crate::reduction::{Reduction, reduction_named};
-use nd_array_core::{ArrayView, Dimension, IxDyn};
+use nd_array_core::Dimension;
 use nd_npy::writer::npy_bytes_as;
 use nd_npy_text::ItemType;
 use nd_npy_text::writer::{header_bytes, put_shape};
 use nd_text::lines_and_words::split_word;
 use nd_text::number_reading::split_number;
-use std::alloc::{AllocError, Global};
+use std::alloc::Global;
 
 /// What is wanted of the array after the steps.
 #[derive(Clone, Copy, Debug, PartialEq, Eq)]
@@ -111,30 +113,51 @@ fn after_front(head: &[u8]) -> &[u8]
 }
 
 /// Returns the dict in the head of the file of an array with this type of items and this shape, with the spaces and the
-/// line feed that end the head.
-#[tactic(auto, using(crate::proofs::DictOfHeader::head_long, crate::proofs::DictOfHeader::dict_after_front))]
+/// line feed that end the head. Fails with `Memory` if memory is refused.
+#[tactic(auto, using(crate::proofs::DictOfHeader::head_long))]
 fn description_bytes(
     alloc: Global,
     item_type: ItemType,
     shape: &[usize],
-) -> Result<Vec<u8>, AllocError>
+) -> Result<Vec<u8>, Fault<'static>>
     requires { length shape.now ≤ 32 }
-    ensures { IfOk result (λ v. v.items ≡ padded (roomy_text (described item_type false shape.now))) }
+    ensures { ComesOfText (Some (padded (roomy_text (described item_type false shape.now)))) (bytes_made result) }
 {
-    let head = header_bytes(alloc, item_type, false, shape)?;
+    let head = match header_bytes(alloc, item_type, false, shape) {
+        Ok(head) => head,
+        Err(_) => return Err(Fault::Memory),
+    };
     let mut text = Vec::new(alloc);
-    text.extend_from_slice(after_front(head.as_slice()))?;
-    Ok(text)
+    match text.extend_from_slice(after_front(head.as_slice())) {
+        Ok(()) => Ok(text),
+        Err(_) => Err(Fault::Memory),
+    }
 }
 
-/// Returns the line that tells a shape, as numpy writes it.
-fn shape_bytes(alloc: Global, shape: &[usize]) -> Result<Vec<u8>, AllocError>
-    ensures { IfOk result (λ v. v.items ≡ tuple_text shape.now ++ codes "\n") }
+/// Returns the line that tells a shape, as numpy writes it. Fails with `Memory` if memory is refused.
+fn shape_bytes(alloc: Global, shape: &[usize]) -> Result<Vec<u8>, Fault<'static>>
+    ensures { ComesOfText (Some (tuple_text shape.now ++ codes "\n")) (bytes_made result) }
 {
     let mut bytes = Vec::new(alloc);
-    put_shape(&mut bytes, shape)?;
-    bytes.extend_from_slice(b"\n")?;
+    if put_shape(&mut bytes, shape).is_err() || bytes.extend_from_slice(b"\n").is_err() {
+        return Err(Fault::Memory);
+    }
     Ok(bytes)
+}
+
+/// Returns the file of an array of items, or fails with `Memory` if memory is refused.
+fn file_bytes<const N: usize>(
+    alloc: Global,
+    item_type: ItemType,
+    array: &Items<'_, N>,
+) -> Result<Vec<u8>, Fault<'static>>
+    requires { kind_size item_type.kind ≡ N }
+    ensures { ComesOfText (Some (file_text item_type (meaning_of array.now))) (bytes_made result) }
+{
+    match npy_bytes_as(alloc, item_type, array) {
+        Ok(file) => Ok(file),
+        Err(_) => Err(Fault::Memory),
+    }
 }
 
 /// Returns what is wanted of an array whose items have the type `item_type`. Fails with `NoText` if that is its text, and
@@ -143,27 +166,15 @@ pub(crate) fn wanted_bytes<const N: usize>(
     alloc: Global,
     wanted: Wanted,
     item_type: ItemType,
-    array: &ArrayView<'_, [u8; N], IxDyn>,
+    array: &Items<'_, N>,
 ) -> Result<Vec<u8>, Fault<'static>>
     requires { kind_size item_type.kind ≡ N }
     ensures { ComesOfArray wanted item_type (meaning_of array.now) (bytes_made result) }
 {
     match wanted {
-        Wanted::File => match npy_bytes_as(alloc, item_type, array) {
-            Ok(file) => Ok(file),
-            Err(_) => Err(Fault::Memory),
-        },
-        Wanted::Description => {
-            let dim = array.raw_dim();
-            match description_bytes(alloc, item_type, dim.slice()) {
-                Ok(text) => Ok(text),
-                Err(_) => Err(Fault::Memory),
-            }
-        }
-        Wanted::Shape => match shape_bytes(alloc, array.shape()) {
-            Ok(text) => Ok(text),
-            Err(_) => Err(Fault::Memory),
-        },
+        Wanted::File => file_bytes(alloc, item_type, array),
+        Wanted::Description => description_bytes(alloc, item_type, array.raw_dim().slice()),
+        Wanted::Shape => shape_bytes(alloc, array.raw_dim().slice()),
         Wanted::Text => printed_bytes(alloc, item_type, array),
         Wanted::Reduced { reduction, axis } => {
             reduced_bytes(alloc, reduction, axis, item_type, array)

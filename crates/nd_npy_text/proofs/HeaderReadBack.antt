@@ -17,7 +17,7 @@ use Rattle.nd_npy_text.specs.ItemTypes.{kind_size, item_type_text, has_its_order
 use Rattle.nd_npy_text.specs.HeaderDescription.{Description, IsWholeHeader, fits_memory, product_without_zeros, text_start}
 use Rattle.nd_npy_text.specs.HeaderTokens.{HeaderStop, ◌>>=◌, after_spaces, after_text, after_mark, truth_here}
 use Rattle.nd_npy_text.specs.ItemTypeReading.{quoted_item_in, item_type_here}
-use Rattle.nd_npy_text.specs.HeaderReading.{Parts, no_parts, with_item_type, with_order, with_shape, shape_here, key_in, value_in, entry_in, next_entry, entries_in, description_of_parts, line_end, dict_end, lengths_in, dict_in, first_bytes, opening_in, with_byte_counted, unless_too_large, npy_header_in, text_in}
+use Rattle.nd_npy_text.specs.HeaderReading.{Parts, no_parts, with_item_type, with_order, with_shape, shape_here, key_end, key_in, value_in, entry_in, next_entry, entries_in, description_of_parts, line_end, dict_end, lengths_in, dict_in, first_bytes, opening_in, with_byte_counted, unless_too_large, npy_header_in, text_in}
 use Rattle.nd_npy_text.specs.HeaderWriting.{python_truth_text, next_length, tuple_text, dict_text, growth_room, spaces, padding, roomy_text, padded, front_text, with_front, npy_header_text}
 use Rattle.nd_npy_text.specs.HeaderLaws.{HeadersReadBack, HeadersAreAligned, VersionsAgree, in_version}
 use Rattle.nd_npy_text.proofs.ItemTypesReadBack.{item_back}
@@ -48,7 +48,7 @@ abbrev and_shape : ItemType → Bool → Result (List ℕ × List ℕ) HeaderSto
 and_shape item order r = r >>= λ s. Ok (with_shape s.0 (front_parts item order), s.1)
 
 shape_back : (item : ItemType) (order : Bool) (ns tail : List ℕ) → product_without_zeros ns < 2 ^ 63 → length ns ≤ 32 → next_entry (front_parts item order) (codes ", 'shape': " ++ (tuple_text ns ++ tail)) ≡ Ok (with_shape ns (front_parts item order), tail)
-unfolding next_entry entry_in key_in value_in shape_here after_mark
+unfolding next_entry entry_in key_in key_end value_in shape_here after_mark
 shape_back item order [] tail fits axes = ap (and_shape item order) (none_back true 32 tail)
 shape_back item order (n ∷ []) tail fits axes = ap (and_shape item order) (ap (lengths_in true 32) (append_assoc (decimal n) (codes ",)") tail) ∙ only_back n tail (first_within n [] fits))
 shape_back item order (n ∷ m ∷ ms) tail fits axes =
@@ -70,7 +70,7 @@ after_item r = first_part (closed r) >>= λ x. next_entry x.0 x.1 >>= λ y. next
 
 front_back : (item : ItemType) (order : Bool) (tail : List ℕ) → IsTrue (has_its_order item)
     → entries_in (codes "'descr': '" ++ (item_type_text item ++ (codes "', 'fortran_order': " ++ (python_truth_text order ++ (codes ", 'shape': " ++ tail))))) ≡ next_entry (front_parts item order) (codes ", 'shape': " ++ tail)
-unfolding entries_in next_entry entry_in value_in key_in after_mark item_type_here quoted_item_in truth_here
+unfolding entries_in next_entry entry_in value_in key_in key_end after_mark item_type_here quoted_item_in truth_here
 front_back item true tail goes = ap after_item (item_back item (codes ", 'fortran_order': True, 'shape': " ++ tail) goes)
 front_back item false tail goes = ap after_item (item_back item (codes ", 'fortran_order': False, 'shape': " ++ tail) goes)
 

@@ -1,20 +1,16 @@
--- Texts put one after the other, and that a head of at most 32 axes is short.
-use Rattle.std.proofs.Common.{◌≡◌, ◌∙◌, ℕ, suc, ◌+◌, ◌-◌, ◌*◌, ◌<◌, ◌≤◌, ◌^◌, Bool, true, false, List, [], ◌∷◌, ◌++◌, length, length-append, append_assoc, get_or, ap, arith}
+-- A head of at most 32 axes is short; and the spaces that end it.
+use Rattle.std.proofs.Common.{◌≡◌, ◌∙◌, ℕ, suc, ◌+◌, ◌-◌, ◌*◌, ◌%◌, ◌<◌, ◌≤◌, ◌^◌, Bool, true, false, List, [], ◌∷◌, ◌++◌, length, length-append, append_assoc, get_or, take, take_all, sym, ap, arith}
 use Rattle.std.specs.Prelude.{codes, nat_eq, if◌then◌else◌}
 use Rattle.std.specs.List.{flat_map}
 use Rattle.std.specs.Fmt.{decimal}
 use Rattle.std.proofs.lemmas.Fmt.{length-decimal-le}
-use Rattle.std.proofs.lemmas.List.{length-replicate}
+use Rattle.std.proofs.lemmas.List.{length-replicate, replicate-append-replicate}
 use Rattle.nd_npy_text.specs.declared.item_type.Kind.{Kind}
 use Rattle.nd_npy_text.specs.declared.item_type.Kind.TheVariants as kinds
 use Rattle.nd_npy_text.specs.declared.item_type.ItemType.{ItemType}
 use Rattle.nd_npy_text.specs.ItemTypes.{kind_code, item_type_text}
 use Rattle.nd_npy_text.specs.HeaderDescription.{described}
-use Rattle.nd_npy_text.specs.HeaderWriting.{python_truth_text, next_length, tuple_text, dict_text, growth_room, growing_length, spaces, roomy_text}
-
--- a text put after another, and one more after it
-pub put_then : (x y a : List ℕ) → y ≡ x ++ a → (tail : List ℕ) → y ++ tail ≡ x ++ (a ++ tail)
-put_then x y a is tail = ap (λ l. l ++ tail) is ∙ append_assoc x a tail
+use Rattle.nd_npy_text.specs.HeaderWriting.{python_truth_text, next_length, tuple_text, dict_text, growth_room, growing_length, spaces, padding, padded}
 
 code_short : (kind : Kind) → length (kind_code kind) ≤ 3
 code_short kinds.Bool = omega arith
@@ -74,7 +70,7 @@ room_short order shape = by_test (nat_eq (length shape) 0) (length (decimal (gro
     by_test true count = omega arith
     by_test false count = omega arith
 
-pub text_short : (item : ItemType) (order : Bool) (shape : List ℕ) → length shape ≤ 32 → AreSizes shape → length (roomy_text (described item order shape)) ≤ 800
+pub text_short : (item : ItemType) (order : Bool) (shape : List ℕ) → length shape ≤ 32 → AreSizes shape → length (dict_text (described item order shape)) + growth_room order shape ≤ 800
 text_short item order shape axes sizes =
     let code = code_short item.kind in
     let word = truth_short order in
@@ -83,6 +79,24 @@ text_short item order shape axes sizes =
     let a = length-append (tuple_text shape) (codes ", }") in
     let b = length-append (python_truth_text order) (codes ", 'shape': " ++ (tuple_text shape ++ codes ", }")) in
     let c = length-append (item_type_text item) (codes "', 'fortran_order': " ++ (python_truth_text order ++ (codes ", 'shape': " ++ (tuple_text shape ++ codes ", }")))) in
-    let d = length-append (dict_text (described item order shape)) (spaces (growth_room order shape)) in
-    let e = length-replicate {A = ℕ} (growth_room order shape) 32 in
-    omega (arith, code, word, tuple, room, axes, a, b, c, d, e)
+    omega (arith, code, word, tuple, room, axes, a, b, c)
+
+-- a text with spaces up to the length `end`
+spaced : (text new : List ℕ) (room pad end : ℕ) → end ≡ length text + room + pad → new ≡ take end text ++ spaces (end - length text) → new ≡ (text ++ spaces room) ++ spaces pad
+spaced text new room pad end is so =
+    let more : end - length text ≡ room + pad = omega (arith, is) in
+    let all : length text ≤ end = omega (arith, is) in
+    so
+    ∙ ap (λ l. l ++ spaces (end - length text)) (take_all end text all)
+    ∙ ap (λ n. text ++ spaces n) more
+    ∙ ap (λ l. text ++ l) (sym (replicate-append-replicate room pad 32))
+    ∙ sym (append_assoc text (spaces room) (spaces pad))
+
+-- the text of a dict, with spaces up to the length `end` and a line feed after them
+pub padded_is : (text new : List ℕ) (room end : ℕ) → end ≡ length text + room + 64 - (11 + (length text + room)) % 64 → new ≡ take end text ++ spaces (end - length text) → new ++ codes "\n" ≡ padded (text ++ spaces room)
+padded_is text new room end is so =
+    let long : length (text ++ spaces room) ≡ length text + room = omega (arith, length-append text (spaces room), length-replicate {A = ℕ} room 32) in
+    let least : (11 + (length text + room)) % 64 < 64 = omega arith in
+    let far : end ≡ length text + room + padding (length (text ++ spaces room)) = rw long (omega (arith, is, least)) in
+    let pad = padding (length (text ++ spaces room)) in
+    ap (λ l. l ++ codes "\n") (spaced text new room pad end far so) ∙ append_assoc (text ++ spaces room) (spaces pad) (codes "\n")

@@ -6,6 +6,7 @@ mod HeaderIgnoresFollowingBytes
 pub mod MemoryLackAfterHeader
 mod HeaderReadBack
 mod NonzeroProducts
+mod OpeningEndsInside
 mod BytesBehindOthers
 mod DictOfThreeEntries
 mod HeaderTextLength

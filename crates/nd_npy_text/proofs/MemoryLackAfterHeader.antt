@@ -14,9 +14,13 @@ use Rattle.nd_npy_text.specs.HeaderReading.{with_byte_counted, dict_in, first_by
 abbrev NotTold : {A : Type 0} → Result A HeaderError → Type 0
 NotTold r = r ≡ Err Memory → ⊥
 
+-- an error that is told is the lack of memory
+pub told_memory : {A : Type 0} (e : HeaderError) → ◌≡◌ {A = Result A HeaderError} (Err e) (Err Memory) → e ≡ Memory
+told_memory e is = cc
+
 bind_not : {A B : Type 0} (r : Result A HeaderError) (f : A → Result B HeaderError) → NotTold r → ((a : A) → NotTold (f a)) → NotTold (r >>= f)
 bind_not (Ok a) f first then is = then a is
-bind_not (Err e) f first then is = first (let same : e ≡ Memory = cc in ap Err same)
+bind_not (Err e) f first then is = first (ap Err (told_memory e is))
 
 magic_not : (r : Result (List ℕ) HeaderStop) → NotTold (or_no_magic r)
 magic_not (Ok rest) is = absurd cc

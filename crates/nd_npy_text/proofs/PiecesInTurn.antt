@@ -1,8 +1,6 @@
 -- The pieces that a loop has appended, one after another.
 use Rattle.std.proofs.Common.{◌≡◌, ◌∙◌, ◌<◌, ◌≤◌, ◌+◌, ℕ, zero, suc, List, [], ◌∷◌, ◌++◌, length, take, take_all, slice_index_or, sym, ap, append_assoc, append-nil, arith}
 use Rattle.std.specs.List.{flat_map}
-use Rattle.std.proofs.lemmas.List.{replicate-append-replicate}
-use Rattle.nd_npy_text.specs.HeaderWriting.{spaces}
 
 module _ {X A : Type 0} (f : X → List A) where
   next : (xs : List X) (i : ℕ) (d : X) → i < length xs → flat_map f (take i xs) ++ f (slice_index_or xs i d) ≡ flat_map f (take (suc i) xs)
@@ -23,8 +21,3 @@ module _ {X A : Type 0} (f : X → List A) where
   -- those of all items
   pub pieces_all : (xs : List X) (i : ℕ) (start new : List A) → length xs ≤ i → new ≡ start ++ flat_map f (take i xs) → new ≡ start ++ flat_map f xs
   pieces_all xs i start new end so = so ∙ ap (λ l. start ++ flat_map f l) (take_all i xs end)
-
--- one space more
-pub spaces_more : (count : ℕ) (start old new : List ℕ) → old ≡ start ++ spaces count → new ≡ old ++ 32 ∷ [] → new ≡ start ++ spaces (count + 1)
-spaces_more count start old new so more =
-    more ∙ ap (λ l. l ++ 32 ∷ []) so ∙ append_assoc start (spaces count) (32 ∷ []) ∙ ap (λ l. start ++ l) (replicate-append-replicate count 1 32)

@@ -61,14 +61,19 @@ shape_here bytes = after_mark flaws.Shape 40 bytes >>= λ a. lengths_in true 32 
 
 -- ---- the dict
 
--- Returns the key whose name stands at the front, and what follows it. The first letter decides which name is expected.
-abbrev pub key_named : List ℕ → Result (Key × List ℕ) HeaderStop
-key_named [] = Err (0, flaws.Key)
-key_named (b ∷ bs) = if b == 100 then (after_text flaws.Key (codes "descr") (b ∷ bs) >>= λ rest. Ok (Descr, rest)) else (if b == 102 then (after_text flaws.Key (codes "fortran_order") (b ∷ bs) >>= λ rest. Ok (FortranOrder, rest)) else (if b == 115 then (after_text flaws.Key (codes "shape") (b ∷ bs) >>= λ rest. Ok (Shape, rest)) else Err (length (b ∷ bs), flaws.Key)))
+-- Returns the key, and what follows the colon after it, where `name` and then the byte `quote` stand at the front.
+unfoldable pub key_end : Key → List ℕ → ℕ → List ℕ → Result (Key × List ℕ) HeaderStop
+key_end key name quote bytes = after_text flaws.Key name bytes >>= λ a. after_text flaws.Key (quote ∷ []) a >>= λ b. after_mark flaws.Key 58 b >>= λ rest. Ok (key, rest)
+
+-- Returns the key whose name stands at the front, with the byte `quote` after it, and what follows the colon after that.
+-- The first letter decides which name is expected.
+abbrev pub key_until : ℕ → List ℕ → Result (Key × List ℕ) HeaderStop
+key_until quote [] = Err (0, flaws.Key)
+key_until quote (b ∷ bs) = if b == 100 then key_end Descr (codes "descr") quote (b ∷ bs) else (if b == 102 then key_end FortranOrder (codes "fortran_order") quote (b ∷ bs) else (if b == 115 then key_end Shape (codes "shape") quote (b ∷ bs) else Err (length (b ∷ bs), flaws.Key)))
 
 -- Returns the key at the front, which stands between two ' or two ", and what follows the colon after it.
 unfoldable pub key_in : List ℕ → Result (Key × List ℕ) HeaderStop
-key_in bytes = quote_in (after_spaces bytes) >>= λ q. key_named q.1 >>= λ k. after_text flaws.Key (q.0 ∷ []) k.1 >>= λ b. after_mark flaws.Key 58 b >>= λ rest. Ok (k.0, rest)
+key_in bytes = quote_in (after_spaces bytes) >>= λ q. key_until q.0 q.1
 
 -- The values of a dict that were read so far, by their keys; a key that wasn't read yet has `None`.
 pub record Parts : Type 0 where

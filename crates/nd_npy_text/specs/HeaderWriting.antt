@@ -27,6 +27,10 @@ tuple_text (n ∷ ns) = codes "(" ++ (decimal n ++ (flat_map next_length ns ++ t
 abbrev pub dict_text : Description → List ℕ
 dict_text d = codes "{'descr': '" ++ (item_type_text d.item_type ++ (codes "', 'fortran_order': " ++ (python_truth_text d.fortran_order ++ (codes ", 'shape': " ++ (tuple_text d.array_shape ++ codes ", }")))))
 
+-- Returns what stands in a dict between the item type and the shape.
+abbrev pub order_text : Bool → List ℕ
+order_text order = codes "', 'fortran_order': " ++ (python_truth_text order ++ codes ", 'shape': ")
+
 -- Returns the length of the axis along which an array can grow, which is the one that runs slowest: the last axis in
 -- Fortran's order (`order` is `true`), the first otherwise.
 abbrev pub growing_length : Bool → List ℕ → ℕ

@@ -3,9 +3,8 @@
 ghost use Rattle.std.specs.Prelude.{◌≡◌, ◌≤◌, length, IsTrue, IfOk};
 ghost use Rattle.std.specs.Result.{result_map_both};
 ghost use Rattle.nd_npy_text.specs.ItemTypes.{has_its_order};
-ghost use Rattle.nd_npy_text.specs.HeaderReading.{key_named, key_in, no_parts, value_in, entry_in, next_entry, entries_in, description_of_found, without_comma, line_end, dict_end, dict_in};
+ghost use Rattle.nd_npy_text.specs.HeaderReading.{key_end, key_until, key_in, no_parts, value_in, entry_in, next_entry, entries_in, description_of_found, without_comma, line_end, dict_end, dict_in};
 ghost use Rattle.nd_npy_text.specs.DictEntries.{listed, entry_parts, dict_of, AreSound};
-ghost use Rattle.nd_npy_text.specs.HeaderTokens.{quote_in};
 ghost use Rattle.nd_npy_text.specs.declared.dict.Key.TheVariants.{Descr, FortranOrder, Shape};
 
 use crate::errors::HeaderFlaw;
@@ -42,33 +41,37 @@ pub(crate) struct Dict {
     pub(crate) shape: Lengths,
 }
 
-/// Returns the quote at the front of `text`, and what follows it.
-fn quote_in(text: &[u8]) -> Result<(u8, &[u8]), (usize, HeaderFlaw)>
-    ensures { result_map_both (λ x. (x.0, x.1.now)) (λ stop. stop) result ≡ quote_in text.now }
+/// Returns `key` and what follows the colon after it, where `name` and then `quote` must stand at the front of `text`.
+#[tactic(auto, unfolding(crate::specs::HeaderReading::key_end))]
+fn key_end<'a>(
+    key: Key,
+    name: &[u8],
+    quote: u8,
+    text: &'a [u8],
+) -> Result<(Key, &'a [u8]), (usize, HeaderFlaw)>
+    ensures { result_map_both (λ x. (x.0, x.1.now)) (λ stop. stop) result ≡ key_end key name.now quote text.now }
 {
-    match text {
-        [byte, after @ ..] if *byte == b'\'' || *byte == b'"' => Ok((*byte, after)),
-        _ => Err((text.len(), HeaderFlaw::Key)),
+    match after_text(HeaderFlaw::Key, name, text) {
+        Ok(rest) => match after_text(HeaderFlaw::Key, &[quote], rest) {
+            Ok(rest) => match after_mark(HeaderFlaw::Key, b':', rest) {
+                Ok(rest) => Ok((key, rest)),
+                Err(stop) => Err(stop),
+            },
+            Err(stop) => Err(stop),
+        },
+        Err(stop) => Err(stop),
     }
 }
 
-/// Returns the key whose name stands at the front of `text`, and what follows it.
-fn key_named(text: &[u8]) -> Result<(Key, &[u8]), (usize, HeaderFlaw)>
-    ensures { result_map_both (λ x. (x.0, x.1.now)) (λ stop. stop) result ≡ key_named text.now }
+/// Returns the key whose name stands at the front of `text`, with `quote` after it, and what follows the colon after
+/// that.
+fn key_until(quote: u8, text: &[u8]) -> Result<(Key, &[u8]), (usize, HeaderFlaw)>
+    ensures { result_map_both (λ x. (x.0, x.1.now)) (λ stop. stop) result ≡ key_until quote text.now }
 {
     match text {
-        [b'd', ..] => match after_text(HeaderFlaw::Key, b"descr", text) {
-            Ok(rest) => Ok((Key::Descr, rest)),
-            Err(stop) => Err(stop),
-        },
-        [b'f', ..] => match after_text(HeaderFlaw::Key, b"fortran_order", text) {
-            Ok(rest) => Ok((Key::FortranOrder, rest)),
-            Err(stop) => Err(stop),
-        },
-        [b's', ..] => match after_text(HeaderFlaw::Key, b"shape", text) {
-            Ok(rest) => Ok((Key::Shape, rest)),
-            Err(stop) => Err(stop),
-        },
+        [b'd', ..] => key_end(Key::Descr, b"descr", quote, text),
+        [b'f', ..] => key_end(Key::FortranOrder, b"fortran_order", quote, text),
+        [b's', ..] => key_end(Key::Shape, b"shape", quote, text),
         _ => Err((text.len(), HeaderFlaw::Key)),
     }
 }
@@ -78,12 +81,11 @@ fn key_named(text: &[u8]) -> Result<(Key, &[u8]), (usize, HeaderFlaw)>
 fn key_in(text: &[u8]) -> Result<(Key, &[u8]), (usize, HeaderFlaw)>
     ensures { result_map_both (λ x. (x.0, x.1.now)) (λ stop. stop) result ≡ key_in text.now }
 {
-    let (quote, text) = quote_in(after_spaces(text))?;
-    let (key, text) = key_named(text)?;
-    let literal = [quote];
-    let text = after_text(HeaderFlaw::Key, &literal, text)?;
-    let text = after_mark(HeaderFlaw::Key, b':', text)?;
-    Ok((key, text))
+    let text = after_spaces(text);
+    match text {
+        [byte, after @ ..] if *byte == b'\'' || *byte == b'"' => key_until(*byte, after),
+        _ => Err((text.len(), HeaderFlaw::Key)),
+    }
 }
 
 /// Returns `found` with the item type at the front of `text`, and what follows the item type. Fails with `KeyAgain` if
@@ -290,9 +292,10 @@ fn line_end(text: &[u8]) -> Result<&[u8], (usize, HeaderFlaw)>
 fn ending(text: &[u8]) -> Result<&[u8], (usize, HeaderFlaw)>
     ensures { result_map_both (λ x. x.now) (λ stop. stop) result ≡ dict_end text.now }
 {
-    let text = without_comma(after_spaces(text));
-    let text = after_mark(HeaderFlaw::Ending, b'}', text)?;
-    line_end(after_spaces(text))
+    match after_mark(HeaderFlaw::Ending, b'}', without_comma(after_spaces(text))) {
+        Ok(rest) => line_end(after_spaces(rest)),
+        Err(stop) => Err(stop),
+    }
 }
 
 /// Returns what a dict says.

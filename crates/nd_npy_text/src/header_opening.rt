@@ -1,8 +1,7 @@
 //! Reading what stands in front of the dict: the magic bytes, the version and the length of the dict.
 
-ghost use Rattle.std.specs.Prelude.{◌≡◌, ◌+◌, ◌<◌, ◌≤◌, ◌^◌, length, IfOk};
+ghost use Rattle.std.specs.Prelude.{◌≡◌};
 ghost use Rattle.std.specs.Result.{result_map_both};
-ghost use Rattle.nd_npy_text.specs.HeaderDescription.{size_width};
 ghost use Rattle.nd_npy_text.specs.HeaderReading.{magic, or_no_magic, version_numbered, version_in, size_in, text_in, opening_in};
 ghost use Rattle.nd_npy_text.specs.HeaderTokens.{after_text};
 ghost use Rattle.nd_npy_text.specs.declared.errors.HeaderFlaw.TheVariants.{Beginning};
@@ -15,8 +14,7 @@ const MAGIC: &[u8] = b"\x93NUMPY";
 
 /// Returns what follows the magic bytes.
 fn after_magic(bytes: &[u8]) -> Result<&[u8], HeaderError>
-    ensures value { result_map_both (λ x. x.now) (λ e. e) result ≡ or_no_magic (after_text Beginning magic bytes.now) }
-    ensures shorter { IfOk result (λ x. length x.now + 6 ≡ length bytes.now) }
+    ensures { result_map_both (λ x. x.now) (λ e. e) result ≡ or_no_magic (after_text Beginning magic bytes.now) }
 {
     match after_text(HeaderFlaw::Beginning, MAGIC, bytes) {
         Ok(rest) => Ok(rest),
@@ -41,8 +39,7 @@ fn version_numbered(major: u8, minor: u8) -> Option<Version>
 
 /// Returns the version at the front of `bytes`, and what follows it.
 fn version_in(bytes: &[u8]) -> Result<(Version, &[u8]), HeaderError>
-    ensures value { result_map_both (λ x. (x.0, x.1.now)) (λ e. e) result ≡ version_in bytes.now }
-    ensures shorter { IfOk result (λ x. length x.1.now + 2 ≡ length bytes.now) }
+    ensures { result_map_both (λ x. (x.0, x.1.now)) (λ e. e) result ≡ version_in bytes.now }
 {
     match bytes {
         [major, minor, rest @ ..] => match version_numbered(*major, *minor) {
@@ -59,9 +56,7 @@ fn version_in(bytes: &[u8]) -> Result<(Version, &[u8]), HeaderError>
 /// Returns the length of the dict at the front of `bytes`, in four bytes if `wide` and in two otherwise, and what
 /// follows it.
 fn size_in(wide: bool, bytes: &[u8]) -> Result<(usize, &[u8]), HeaderError>
-    ensures value { result_map_both (λ x. (x.0, x.1.now)) (λ e. e) result ≡ size_in wide bytes.now }
-    ensures low { IfOk result (λ x. x.0 < 2 ^ 32) }
-    ensures shorter { IfOk result (λ x. length x.1.now + size_width wide ≡ length bytes.now) }
+    ensures { result_map_both (λ x. (x.0, x.1.now)) (λ e. e) result ≡ size_in wide bytes.now }
 {
     if wide {
         match bytes {
@@ -83,23 +78,29 @@ fn size_in(wide: bool, bytes: &[u8]) -> Result<(usize, &[u8]), HeaderError>
 /// that follow the version.
 #[tactic(auto, unfolding(crate::specs::HeaderReading::text_in))]
 fn text_in(version: Version, bytes: &[u8]) -> Result<(usize, &[u8]), HeaderError>
-    ensures value { result_map_both (λ x. (x.0, x.1.now)) (λ e. e) result ≡ text_in version bytes.now }
-    ensures inside { IfOk result (λ x. x.0 ≤ length bytes.now + 8) }
+    ensures { result_map_both (λ x. (x.0, x.1.now)) (λ e. e) result ≡ text_in version bytes.now }
 {
-    let (size, bytes) = size_in(version.is_wide(), bytes)?;
-    if size > bytes.len() {
-        return Err(HeaderError::TooShort);
+    match size_in(version.is_wide(), bytes) {
+        Ok((size, rest)) => {
+            if size > rest.len() {
+                return Err(HeaderError::TooShort);
+            }
+            Ok((version.text_start() + size, &rest[..size]))
+        }
+        Err(error) => Err(error),
     }
-    Ok((version.text_start() + size, &bytes[..size]))
 }
 
 /// Returns at which byte of the file the elements begin, and the text of the dict, which ends there.
 #[tactic(auto, unfolding(crate::specs::HeaderReading::opening_in))]
 pub(crate) fn opening_in(bytes: &[u8]) -> Result<(usize, &[u8]), HeaderError>
-    ensures value { result_map_both (λ x. (x.0, x.1.now)) (λ e. e) result ≡ opening_in bytes.now }
-    ensures inside { IfOk result (λ x. x.0 ≤ length bytes.now) }
+    ensures { result_map_both (λ x. (x.0, x.1.now)) (λ e. e) result ≡ opening_in bytes.now }
 {
-    let bytes = after_magic(bytes)?;
-    let (version, bytes) = version_in(bytes)?;
-    text_in(version, bytes)
+    match after_magic(bytes) {
+        Ok(rest) => match version_in(rest) {
+            Ok((version, rest)) => text_in(version, rest),
+            Err(error) => Err(error),
+        },
+        Err(error) => Err(error),
+    }
 }

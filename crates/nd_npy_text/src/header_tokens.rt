@@ -1,7 +1,7 @@
 //! Reading the tokens of a head from the front of the bytes. An error is how many bytes are left at the place that
 //! can't be read, and what is wrong there.
 
-ghost use Rattle.std.specs.Prelude.{◌≡◌, ◌+◌, ◌-◌, ◌*◌, ◌<◌, ◌^◌, length, IfOk, SomeIff, IsTrue};
+ghost use Rattle.std.specs.Prelude.{◌≡◌, ◌+◌, ◌-◌, ◌*◌, ◌<◌, ◌^◌, SomeIff, IsTrue};
 ghost use Rattle.std.specs.Result.{result_map_both};
 ghost use Rattle.nd_npy_text.specs.HeaderTokens.{after_spaces, after_text, after_mark, npy_takes_digit, npy_digits_after, npy_number_here, truth_here};
 
@@ -28,8 +28,7 @@ pub(crate) fn after_text<'a>(
     literal: &[u8],
     text: &'a [u8],
 ) -> Result<&'a [u8], (usize, HeaderFlaw)>
-    ensures value { result_map_both (λ x. x.now) (λ stop. stop) result ≡ after_text flaw literal.now text.now }
-    ensures shorter { IfOk result (λ x. length x.now + length literal.now ≡ length text.now) }
+    ensures { result_map_both (λ x. x.now) (λ stop. stop) result ≡ after_text flaw literal.now text.now }
 {
     let mut wanted = literal;
     let mut rest = text;

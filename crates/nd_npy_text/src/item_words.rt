@@ -2,7 +2,7 @@
 
 ghost use Rattle.std.specs.Prelude.{◌≡◌, IsTrue, IfOk, IfSome};
 ghost use Rattle.std.specs.Result.{result_map_both};
-ghost use Rattle.nd_npy_text.specs.ItemTypes.{order_marked, signed_sized, unsigned_sized, float_sized, complex_sized, bool_sized, npy_kind_named, item_type_named, has_its_order};
+ghost use Rattle.nd_npy_text.specs.ItemTypes.{order_marked, signed_sized, unsigned_sized, float_sized, complex_sized, bool_sized, npy_kind_named, in_order, item_type_named, has_its_order};
 ghost use Rattle.nd_npy_text.specs.ItemTypeReading.{is_kind_letter, letter_flaw, item_word_in, quoted_item_in, item_type_here};
 
 use crate::errors::HeaderFlaw;
@@ -94,19 +94,32 @@ fn kind_named(letter: u8, size: usize) -> Option<Kind>
     }
 }
 
+/// Returns the item type of a kind and a byte order, if the kind can have this order.
+fn in_order(kind: Kind, order: ByteOrder) -> Option<ItemType>
+    ensures value { result ≡ in_order order kind }
+    ensures order { IfSome result (λ t. IsTrue (has_its_order t)) }
+{
+    let item_type = ItemType { kind, order };
+    if item_type.has_its_order() {
+        Some(item_type)
+    } else {
+        None
+    }
+}
+
 /// Returns the item type that is written as a mark, a letter and a size, if there is one.
 #[tactic(auto, unfolding(crate::specs::ItemTypes::item_type_named))]
 fn item_type_named(mark: u8, letter: u8, size: usize) -> Option<ItemType>
     ensures value { result ≡ item_type_named mark letter size }
     ensures order { IfSome result (λ t. IsTrue (has_its_order t)) }
 {
-    let order = order_marked(mark)?;
-    let kind = kind_named(letter, size)?;
-    let item_type = ItemType { kind, order };
-    if !item_type.has_its_order() {
-        return None;
+    match order_marked(mark) {
+        Some(order) => match kind_named(letter, size) {
+            Some(kind) => in_order(kind, order),
+            None => None,
+        },
+        None => None,
     }
-    Some(item_type)
 }
 
 /// Returns whether `letter` is that of a kind that is supported.
@@ -162,10 +175,13 @@ fn quoted_item_in(quote: u8, text: &[u8]) -> Result<(ItemType, &[u8]), (usize, H
     ensures value { result_map_both (λ x. (x.0, x.1.now)) (λ stop. stop) result ≡ quoted_item_in quote text.now }
     ensures order { IfOk result (λ x. IsTrue (has_its_order x.0)) }
 {
-    let (item_type, rest) = item_word_in(text)?;
-    let literal = [quote];
-    let rest = after_text(HeaderFlaw::ItemType, &literal, rest)?;
-    Ok((item_type, rest))
+    match item_word_in(text) {
+        Ok((item_type, rest)) => match after_text(HeaderFlaw::ItemType, &[quote], rest) {
+            Ok(rest) => Ok((item_type, rest)),
+            Err(stop) => Err(stop),
+        },
+        Err(stop) => Err(stop),
+    }
 }
 
 /// Returns the item type in quotes at the front of `text`, and what follows the second quote.

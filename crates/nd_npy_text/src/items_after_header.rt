@@ -1,8 +1,8 @@
 //! The items that follow a head, each of the same number of bytes, one after another.
 
-ghost use Rattle.std.specs.Prelude.{◌≡◌, ◌<◌, ◌≤◌, ◌+◌, ◌*◌, ◌++◌, length, take, vec_len, vec_capacity, IfOk, Err};
+ghost use Rattle.std.specs.Prelude.{◌≡◌, ◌<◌, ◌≤◌, ◌+◌, ◌*◌, ◌++◌, length, take, vec_len, vec_capacity, IfOk, IfErr, Err};
 ghost use Rattle.std.specs.List.{flat_map};
-ghost use Rattle.nd_npy_text.specs.declared.errors.DataError.TheVariants.{TooShort};
+ghost use Rattle.nd_npy_text.specs.declared.errors.DataError.TheVariants.{TooShort, Memory};
 
 use crate::errors::DataError;
 use std::alloc::{AllocError, Global};
@@ -32,24 +32,30 @@ fn take_item<'a, const N: usize>(items: &mut Vec<[u8; N]>, bytes: &'a [u8]) -> &
     &bytes[N..]
 }
 
-/// Returns the `count` items of `bytes`, which must be exactly as long as these items.
+/// Returns the `count` items of `bytes`, which must be exactly as long as these items. Fails with `Memory` if memory
+/// for the items is refused.
 fn all_items<const N: usize>(
     alloc: Global,
     count: usize,
     bytes: &[u8],
-) -> Result<Vec<[u8; N]>, AllocError>
+) -> Result<Vec<[u8; N]>, DataError>
     requires { length bytes.now ≡ count * N }
     ensures whole { IfOk result (λ v. flat_map (λ item. item) v.items ≡ bytes.now) }
     ensures count { IfOk result (λ v. length v.items ≡ count) }
+    ensures cause { IfErr result (λ e. e ≡ Memory) }
 {
-    let mut items = Vec::with_capacity(alloc, count)?;
-    let mut rest = bytes;
-    let mut left = count;
-    while left > 0 {
-        rest = take_item(&mut items, rest);
-        left -= 1;
+    match Vec::with_capacity(alloc, count) {
+        Ok(mut items) => {
+            let mut rest = bytes;
+            let mut left = count;
+            while left > 0 {
+                rest = take_item(&mut items, rest);
+                left -= 1;
+            }
+            Ok(items)
+        }
+        Err(_) => Err(DataError::Memory),
     }
-    Ok(items)
 }
 
 /// Returns the first `count` items of `N` bytes each of `bytes`, in the order in which they lie. The bytes of an item
@@ -74,10 +80,7 @@ pub fn items_of<const N: usize>(
             if size > bytes.len() {
                 return Err(DataError::TooShort);
             }
-            match all_items(alloc, count, &bytes[..size]) {
-                Ok(items) => Ok(items),
-                Err(_) => Err(DataError::Memory),
-            }
+            all_items(alloc, count, &bytes[..size])
         }
         None => Err(DataError::TooShort),
     }

@@ -21,11 +21,10 @@ fn times(product: usize, length: usize) -> Option<usize>
     requires { 0 < product }
     ensures { SomeIff result (product * factor_of length < 2 ^ 63) (product * factor_of length) }
 {
-    let larger = product.checked_mul(length.max(1))?;
-    if larger > LIMIT {
-        return None;
+    match product.checked_mul(length.max(1)) {
+        Some(larger) if larger <= LIMIT => Some(larger),
+        _ => None,
     }
-    Some(larger)
 }
 
 /// Returns whether the product of the lengths that aren't 0, times the `size` bytes of an element, is at most

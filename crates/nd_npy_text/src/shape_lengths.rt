@@ -69,9 +69,13 @@ fn after_length(first: bool, text: &[u8]) -> Result<&[u8], (usize, HeaderFlaw)>
 fn length_in(first: bool, text: &[u8]) -> Result<(usize, &[u8]), (usize, HeaderFlaw)>
     ensures { result_map_both (λ x. (x.0, x.1.now)) (λ stop. stop) result ≡ length_in first text.now }
 {
-    let (length, text) = number_here(HeaderFlaw::Length, after_spaces(text))?;
-    let text = after_length(first, after_spaces(text))?;
-    Ok((length, text))
+    match number_here(HeaderFlaw::Length, after_spaces(text)) {
+        Ok((length, rest)) => match after_length(first, after_spaces(rest)) {
+            Ok(rest) => Ok((length, rest)),
+            Err(stop) => Err(stop),
+        },
+        Err(stop) => Err(stop),
+    }
 }
 
 /// Returns the error of a shape that doesn't end after 32 lengths: `TooManyAxes` if another length stands at the front

@@ -1,11 +1,10 @@
 //! Writing a head.
 
-ghost use Rattle.std.specs.Prelude.{◌≡◌, ◌≤◌, ◌<◌, ◌^◌, ◌++◌, length, IfOk, OnOk};
+ghost use Rattle.std.specs.Prelude.{◌≡◌, ◌≤◌, ◌<◌, ◌+◌, ◌^◌, ◌++◌, length, IfOk, OnOk};
 ghost use Rattle.std.specs.Fmt.{decimal};
 ghost use Rattle.std.specs.List.{flat_map};
 ghost use Rattle.nd_npy_text.specs.HeaderDescription.{described};
-ghost use Rattle.nd_npy_text.specs.ItemTypes.{item_type_text};
-ghost use Rattle.nd_npy_text.specs.HeaderWriting.{python_truth_text, next_length, tuple_end, tuple_text, dict_text, growth_room, spaces, padded, roomy_text, front_text, with_front, npy_header_text};
+ghost use Rattle.nd_npy_text.specs.HeaderWriting.{order_text, next_length, tuple_end, tuple_text, dict_text, growth_room, spaces, padded, roomy_text, with_front, npy_header_text};
 
 use crate::item_type::ItemType;
 use itoa::Buffer;
@@ -18,22 +17,21 @@ fn put(bytes: &mut Vec<u8>, text: &[u8]) -> Result<(), AllocError>
     bytes.extend_from_slice(text)
 }
 
-/// Puts a number after the bytes.
-fn put_number(bytes: &mut Vec<u8>, number: usize) -> Result<(), AllocError>
-    ensures { OnOk result (bytes.new.items ≡ bytes.old.items ++ decimal number) }
+/// Puts texts after the bytes, one after another.
+fn put_all(bytes: &mut Vec<u8>, texts: &[&[u8]]) -> Result<(), AllocError>
+    ensures { OnOk result (bytes.new.items ≡ bytes.old.items ++ flat_map (λ text. text.now) texts.now) }
 {
-    let mut buffer = Buffer::new();
-    put(bytes, buffer.format(number).as_bytes())
-}
-
-/// Puts `count` spaces after the bytes.
-fn put_spaces(bytes: &mut Vec<u8>, count: usize) -> Result<(), AllocError>
-    ensures { OnOk result (bytes.new.items ≡ bytes.old.items ++ spaces count) }
-{
-    for _ in 0..count {
-        put(bytes, b" ")?;
+    for text in texts {
+        put(bytes, text)?;
     }
     Ok(())
+}
+
+/// Puts a text after the bytes, and a number after this text.
+fn put_with_number(bytes: &mut Vec<u8>, text: &[u8], number: usize) -> Result<(), AllocError>
+    ensures { OnOk result (bytes.new.items ≡ bytes.old.items ++ (text.now ++ decimal number)) }
+{
+    put_all(bytes, &[text, Buffer::new().format(number).as_bytes()])
 }
 
 /// Puts lengths after the bytes, each with a comma and a space in front of it.
@@ -41,8 +39,7 @@ fn put_next_lengths(bytes: &mut Vec<u8>, lengths: &[usize]) -> Result<(), AllocE
     ensures { OnOk result (bytes.new.items ≡ bytes.old.items ++ flat_map next_length lengths.now) }
 {
     for length in lengths {
-        put(bytes, b", ")?;
-        put_number(bytes, *length)?;
+        put_with_number(bytes, b", ", *length)?;
     }
     Ok(())
 }
@@ -68,29 +65,26 @@ pub fn put_shape(bytes: &mut Vec<u8>, shape: &[usize]) -> Result<(), AllocError>
 {
     match shape {
         [] => put(bytes, b"()"),
-        [first, others @ ..] => {
-            put(bytes, b"(")?;
-            put_number(bytes, *first)?;
-            put_next_lengths(bytes, others)?;
-            put(bytes, shape_end(others))
-        }
+        [first, others @ ..] => match put_with_number(bytes, b"(", *first) {
+            Ok(()) => match put_next_lengths(bytes, others) {
+                Ok(()) => put(bytes, shape_end(others)),
+                Err(error) => Err(error),
+            },
+            Err(error) => Err(error),
+        },
     }
 }
 
-/// Puts an item type after the bytes.
-fn put_item_type(bytes: &mut Vec<u8>, item_type: ItemType) -> Result<(), AllocError>
-    ensures { OnOk result (bytes.new.items ≡ bytes.old.items ++ item_type_text item_type) }
+/// Returns what stands in a dict between the item type and the shape: the order as Python writes it, and the keys of
+/// order and shape.
+fn order_text(fortran_order: bool) -> &'static [u8]
+    ensures { result.now ≡ order_text fortran_order }
 {
-    let mark = [item_type.order.mark()];
-    put(bytes, &mark)?;
-    put(bytes, item_type.kind.code())
-}
-
-/// Returns how Python writes a truth value: as `True` or `False`.
-fn truth_text(truth: bool) -> &'static [u8]
-    ensures { result.now ≡ python_truth_text truth }
-{
-    if truth { b"True" } else { b"False" }
+    if fortran_order {
+        b"', 'fortran_order': True, 'shape': "
+    } else {
+        b"', 'fortran_order': False, 'shape': "
+    }
 }
 
 /// Puts a dict after the bytes.
@@ -102,13 +96,20 @@ fn put_dict(
 ) -> Result<(), AllocError>
     ensures { OnOk result (bytes.new.items ≡ bytes.old.items ++ dict_text (described item_type fortran_order shape.now)) }
 {
-    put(bytes, b"{'descr': '")?;
-    put_item_type(bytes, item_type)?;
-    put(bytes, b"', 'fortran_order': ")?;
-    put(bytes, truth_text(fortran_order))?;
-    put(bytes, b", 'shape': ")?;
-    put_shape(bytes, shape)?;
-    put(bytes, b", }")
+    let mark = [item_type.order.mark()];
+    let front: [&[u8]; 4] = [
+        b"{'descr': '",
+        &mark,
+        item_type.kind.code(),
+        order_text(fortran_order),
+    ];
+    match put_all(bytes, &front) {
+        Ok(()) => match put_shape(bytes, shape) {
+            Ok(()) => put(bytes, b", }"),
+            Err(error) => Err(error),
+        },
+        Err(error) => Err(error),
+    }
 }
 
 /// Returns how many decimal digits a number has.
@@ -132,33 +133,19 @@ fn growth_room(fortran_order: bool, shape: &[usize]) -> usize
 /// The number of digits for which the length of the growing axis has room.
 const DIGITS: usize = 21;
 
-/// Returns the dict, and after it the spaces that leave room for a length to grow.
-fn roomy_text(
-    alloc: Global,
-    item_type: ItemType,
-    fortran_order: bool,
-    shape: &[usize],
-) -> Result<Vec<u8>, AllocError>
-    requires { length shape.now ≤ 32 }
-    ensures text { IfOk result (λ v. v.items ≡ roomy_text (described item_type fortran_order shape.now)) }
-    ensures short { IfOk result (λ v. length v.items ≤ 800) }
-{
-    let mut text = Vec::new(alloc);
-    put_dict(&mut text, item_type, fortran_order, shape)?;
-    put_spaces(&mut text, growth_room(fortran_order, shape))?;
-    Ok(text)
-}
-
-/// Puts spaces and a line feed after the text of a dict, which begins at byte 10 of the file, so that the head ends at
-/// a multiple of 64.
-fn pad(text: &mut Vec<u8>) -> Result<(), AllocError>
-    requires { length text.old.items ≤ 800 }
-    ensures text { OnOk result (text.new.items ≡ padded text.old.items) }
+/// Puts spaces and a line feed after the text of a dict, which begins at byte 10 of the file: `room` spaces, and after
+/// them as many as let the head end at a multiple of 64.
+fn pad(text: &mut Vec<u8>, room: usize) -> Result<(), AllocError>
+    requires { length text.old.items + room ≤ 800 }
+    ensures text { OnOk result (text.new.items ≡ padded (text.old.items ++ spaces room)) }
     ensures short { OnOk result (length text.new.items < 2 ^ 16) }
 {
-    let size = text.len();
-    put_spaces(text, ALIGNMENT - (FRONT_LEN + 1 + size) % ALIGNMENT)?;
-    put(text, b"\n")
+    let size = text.len() + room;
+    let end = size + ALIGNMENT - (FRONT_LEN + 1 + size) % ALIGNMENT;
+    match text.resize(end, b' ') {
+        Ok(()) => put(text, b"\n"),
+        Err(error) => Err(error),
+    }
 }
 
 /// The elements begin at a multiple of this number of bytes.
@@ -167,11 +154,33 @@ const ALIGNMENT: usize = 64;
 /// How many bytes stand in front of the dict.
 const FRONT_LEN: usize = 10;
 
-/// Puts the magic bytes, the version 1.0, and the length `size` in two bytes after the bytes.
-fn put_front(bytes: &mut Vec<u8>, size: usize) -> Result<(), AllocError>
-    requires { size < 2 ^ 16 }
-    ensures { OnOk result (bytes.new.items ≡ bytes.old.items ++ front_text size) }
+/// Returns the dict, with the spaces and the line feed that end the head.
+fn padded_text(
+    alloc: Global,
+    item_type: ItemType,
+    fortran_order: bool,
+    shape: &[usize],
+) -> Result<Vec<u8>, AllocError>
+    requires { length shape.now ≤ 32 }
+    ensures text { IfOk result (λ v. v.items ≡ padded (roomy_text (described item_type fortran_order shape.now))) }
+    ensures short { IfOk result (λ v. length v.items < 2 ^ 16) }
 {
+    let mut text = Vec::new(alloc);
+    match put_dict(&mut text, item_type, fortran_order, shape) {
+        Ok(()) => match pad(&mut text, growth_room(fortran_order, shape)) {
+            Ok(()) => Ok(text),
+            Err(error) => Err(error),
+        },
+        Err(error) => Err(error),
+    }
+}
+
+/// Returns the magic bytes, the version 1.0, the length of the text in two bytes, and the text.
+fn with_front(alloc: Global, text: &[u8]) -> Result<Vec<u8>, AllocError>
+    requires { length text.now < 2 ^ 16 }
+    ensures { IfOk result (λ v. v.items ≡ with_front text.now) }
+{
+    let size = text.len();
     let front = [
         0x93,
         b'N',
@@ -184,18 +193,11 @@ fn put_front(bytes: &mut Vec<u8>, size: usize) -> Result<(), AllocError>
         (size % 256) as u8,
         (size / 256) as u8,
     ];
-    put(bytes, &front)
-}
-
-/// Returns the magic bytes, the version, the length of the text, and the text.
-fn with_front(alloc: Global, text: &[u8]) -> Result<Vec<u8>, AllocError>
-    requires { length text.now < 2 ^ 16 }
-    ensures { IfOk result (λ v. v.items ≡ with_front text.now) }
-{
     let mut bytes = Vec::new(alloc);
-    put_front(&mut bytes, text.len())?;
-    put(&mut bytes, text)?;
-    Ok(bytes)
+    match put_all(&mut bytes, &[&front, text]) {
+        Ok(()) => Ok(bytes),
+        Err(error) => Err(error),
+    }
 }
 
 /// Returns the head of an array with elements of this type, in this order, and with this shape, as numpy 1.24 writes
@@ -214,7 +216,8 @@ pub fn header_bytes(
     requires axes { length shape.now ≤ 32 }
     ensures written { IfOk result (λ v. v.items ≡ npy_header_text (described item_type fortran_order shape.now)) }
 {
-    let mut text = roomy_text(alloc, item_type, fortran_order, shape)?;
-    pad(&mut text)?;
-    with_front(alloc, text.as_slice())
+    match padded_text(alloc, item_type, fortran_order, shape) {
+        Ok(text) => with_front(alloc, text.as_slice()),
+        Err(error) => Err(error),
+    }
 }

@@ -1,6 +1,6 @@
 -- A test that all elements of an array pass, from its list of elements.
 use Rattle.std.proofs.Common.{◌≡◌, ◌∙◌, refl, sym, ap, subst, ℕ, zero, suc, ◌<◌, Bool, true, false, List, [], ◌∷◌, length, ◌&&◌, IfSome, slice_get, arith}
-use Rattle.std.specs.List.{list_all}
+use Rattle.std.specs.List.{fold, list_all}
 use Rattle.std.proofs.lemmas.Bool.{and_parts}
 use Rattle.nd_shape_and_slice.specs.ShapesAndIndexOrders.{in_box, index_at, row_rank, size_of}
 use Rattle.nd_shape_and_slice.proofs.RowMajorNumberInverse.{in_box-index_at, row_rank-index_at}
@@ -18,6 +18,24 @@ module _ {A : Type 0} (test : A → Bool) where
   all_pass : (xs : List A) → ((k : ℕ) → k < length xs → IfSome (slice_get xs k) (λ x. test x ≡ true)) → list_all test xs ≡ true
   all_pass [] each = refl
   all_pass (x ∷ xs) each = (λ i. each 0 (omega arith) i && all_pass xs (λ k below. each (suc k) (omega (arith, below))) i)
+
+  -- a fold that tests one element after another tells whether all pass
+  pub folded : (b : Bool) (xs : List A) → fold (λ all x. all && test x) b xs ≡ b && list_all test xs
+  folded true [] = refl
+  folded false [] = refl
+  folded true (x ∷ xs) = folded (test x) xs
+  folded false (x ∷ xs) = folded false xs
+
+  -- in any order
+  pub order_free : (b : Bool) (x y : A) → ((b && test x) && test y) ≡ ((b && test y) && test x)
+  order_free b x y = swapped b (test x) (test y)
+    where
+      swapped : (b s t : Bool) → ((b && s) && t) ≡ ((b && t) && s)
+      swapped false s t = refl
+      swapped true false false = refl
+      swapped true false true = refl
+      swapped true true false = refl
+      swapped true true true = refl
 
   module _ (m : Meaning A) (count : length (row_major_elements m) ≡ size_of m.shape) (listed : ListsByRank m) (outside : NothingOutside m) where
     -- where all pass, the element of each index does

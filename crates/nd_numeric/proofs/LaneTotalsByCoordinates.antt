@@ -1,5 +1,6 @@
 -- The totals of lanes, once one more coordinate is taken.
 use Rattle.std.proofs.Common.{◌≡◌, ◌∙◌, refl, sym, ap, ℕ, zero, suc, ◌<◌, Bool, true, false, List, [], ◌∷◌, length, Option, Some, None, slice_get, arith}
+use Rattle.std.specs.Prelude.{IsSome}
 use Rattle.std.specs.List.{fold, insert}
 use Rattle.std.proofs.lemmas.List.Sums.{fold_push}
 use Rattle.nd_shape_and_slice.specs.ShapesAndIndexOrders.{in_box, row_rank, size_of}
@@ -19,6 +20,13 @@ module _ {A : Type 0} where
   pub element_inside : (m : Meaning A) → length (row_major_elements m) ≡ size_of m.shape → RanksAreBelow m.shape → ListsByRank m → (i : List ℕ) → in_box m.shape i ≡ true → ¬ (m.at i ≡ None)
   element_inside m long below listed i within none =
       item_below (row_major_elements m) (row_rank m.shape i) (let low = below i within in omega (arith, low, long)) (listed i within ∙ none)
+
+  pub element_stands : (m : Meaning A) → length (row_major_elements m) ≡ size_of m.shape → RanksAreBelow m.shape → ListsByRank m → (i : List ℕ) → in_box m.shape i ≡ true → IsSome (m.at i)
+  element_stands m long below listed i within = by_case (m.at i) (element_inside m long below listed i within)
+    where
+      by_case : (o : Option A) → ¬ (o ≡ None) → IsSome o
+      by_case (Some x) some = refl
+      by_case None some = absurd (some refl)
 
 module _ {A B : Type 0} (h : B → A → B) (first : B) (at : List ℕ → Option A) (axis : ℕ) (rest : List ℕ) where
   abbrev Below : ℕ → (List ℕ → Option B) → Type 0

@@ -1,6 +1,5 @@
 -- Variances of lanes, from what each lane shows.
 use Rattle.std.proofs.Common.{◌≡◌, ◌∙◌, ap, ℕ, arith, List, [], ◌∷◌, Option, Some, slice_index}
-use Rattle.std.specs.Option.{option_map}
 use Rattle.nd_shape_and_slice.specs.ShapesAndIndexOrders.{in_box, size_of}
 use Rattle.nd_shape_and_slice.specs.LayoutIndexMaps.{indexed_shape}
 use Rattle.nd_array_core.specs.ConcatenationAndSplit.{row_major_elements}
@@ -26,15 +25,9 @@ module _ {A : Type 0} (plus minus times over : A → A → A) (nought : A) (of_c
       ap (λ n. variance plus minus times over nought of_count ddof n (row_major_elements (lane_of m axis i))) (size_of_line (slice_index m.shape axis))
       ∙ ap (variance plus minus times over nought of_count ddof (slice_index m.shape axis)) (lane_listed m axis i)
 
-  pub of_lanes : (shown : List ℕ → Option A) → IsMappedBy (variance_in plus minus times over nought of_count ddof) (lanes_of m axis).at shown → (i : List ℕ) → shown i ≡ inside (indexed_shape m.shape axis) i (Some (of_lane i))
-  of_lanes shown are i =
+  -- what a function makes of the variance of each lane
+  pub of_lanes : (h : A → A) (shown : List ℕ → Option A) → IsMappedBy (λ lane. h (variance_in plus minus times over nought of_count ddof lane)) (lanes_of m axis).at shown → (i : List ℕ) → shown i ≡ inside (indexed_shape m.shape axis) i (Some (h (of_lane i)))
+  of_lanes h shown are i =
       are i
-      ∙ mapped_if (variance_in plus minus times over nought of_count ddof) (in_box (indexed_shape m.shape axis) i) (lane_of m axis i)
-      ∙ ap (λ x. inside (indexed_shape m.shape axis) i (Some x)) (listed i)
-
-  -- what a function makes of each of them
-  pub made_of_lanes : (h : A → A) (shown made : List ℕ → Option A) → IsMappedBy (variance_in plus minus times over nought of_count ddof) (lanes_of m axis).at shown → ((i : List ℕ) → made i ≡ option_map h (shown i)) → (i : List ℕ) → made i ≡ inside (indexed_shape m.shape axis) i (Some (h (of_lane i)))
-  made_of_lanes h shown made are maps i =
-      maps i
-      ∙ ap (option_map h) (of_lanes shown are i)
-      ∙ mapped_if h (in_box (indexed_shape m.shape axis) i) (of_lane i)
+      ∙ mapped_if (λ lane. h (variance_in plus minus times over nought of_count ddof lane)) (in_box (indexed_shape m.shape axis) i) (lane_of m axis i)
+      ∙ ap (λ x. inside (indexed_shape m.shape axis) i (Some (h x))) (listed i)

@@ -8,5 +8,7 @@ pub mod BestOfLanes
 pub mod FirstAxisBroadcast
 pub mod FirstBestElement
 pub mod OneAxisInOrder
+pub mod OuterProducts
 pub mod LaneMeans
 pub mod LaneVariances
+pub mod ShapeWithoutAxis

@@ -83,6 +83,12 @@ module _
     abbrev pub HasOuterProducts : (A → A → A) → A → ArrayBase S D T A R s d n r t → ArrayBase Z E U A X z e k x u → ArrayBase Y F V A W y f j w v → Type 0
     HasOuterProducts times outside one other table = HasCells table (slice_index (shape_of one) 0) (slice_index (shape_of other) 0) (outer_cell times outside one other)
 
+    -- Says that at each row and column `h` gives of the element of `table` there, and of that of `other` when it is
+    -- broadcast to the table's shape, what it gives of the element of `one` at the row and that of `other` at the column.
+    abbrev pub MeetInCells : (A → A → A) → A → ArrayBase S D T A R s d n r t → ArrayBase Z E U A X z e k x u → ArrayBase Y F V A W y f j w v → Type 0
+    MeetInCells h outside one other table =
+        (row column : ℕ) → row < slice_index (shape_of one) 0 → column < slice_index (shape_of other) 0 → option_both h (element_of_2 table row column) (other_at table other (row ∷ column ∷ [])) ≡ Some (outer_cell h outside one other row column)
+
   -- Says that `c` has, at each index of the other axes, the mean of the lane of `a` along `axis` there.
   abbrev pub HasMeans : (A → A → A) → (A → A → A) → A → (ℕ → A) → ArrayBase S D T A R s d n r t → ℕ → ArrayBase Z E U A X z e k x u → Type 0
   HasMeans plus over nought of_count a axis c = AreMeansOf plus over nought of_count a axis (element_at c)

@@ -1,5 +1,5 @@
 -- Variances: how far numbers lie from their mean.
-use Rattle.std.specs.Prelude.{◌≡◌, ◌-◌, ℕ, List, Option, Some, slice_index}
+use Rattle.std.specs.Prelude.{◌≡◌, ◌-◌, ℕ, Bool, List, Option, Some, slice_index, if◌then◌else◌}
 use Rattle.std.specs.List.{fold}
 use Rattle.nd_shape_and_slice.specs.ShapesAndIndexOrders.{size_of}
 use Rattle.nd_shape_and_slice.specs.LayoutIndexMaps.{indexed_shape}
@@ -11,6 +11,10 @@ use Rattle.nd_array_core.specs.Data as data_trait
 use Rattle.nd_array_core.specs.ConcatenationAndSplit.{row_major_elements}
 use Rattle.nd_array_core.specs.ArrayMeaning.{Meaning, meaning_of, shape_of, element_at, inside}
 use Rattle.nd_array_core.specs.along.AxisFolds.{lane_elements}
+
+-- Returns what `root` gives of `v` where `is_root` is true, and otherwise `v`.
+abbrev pub root_if : {A : Type 0} → (A → A) → Bool → A → A
+root_if root is_root v = if is_root then root v else v
 
 module _ {A : Type 0} (plus minus times : A → A → A) where
   -- Returns `total` plus the square of the distance of `x` from `mean`.

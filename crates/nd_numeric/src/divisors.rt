@@ -1,23 +1,33 @@
 //! Whether an array's elements are allowed as divisors.
 
-ghost use Rattle.std.specs.Prelude.{◌≡◌, IsTrue};
-ghost use Rattle.std.specs.List.{list_all};
-ghost use Rattle.nd_array_core.specs.ConcatenationAndSplit.{row_major_elements};
-ghost use Rattle.nd_array_core.specs.ArrayMeaning.{meaning_of, element_at};
+ghost use Rattle.std.specs.Prelude.{◌&&◌, Bool, IsTrue};
+ghost use Rattle.nd_array_core.specs.ArrayMeaning.{element_at};
+ghost use Rattle.nd_array_core.specs.elements.ElementFolds.{IsOrderFree};
 ghost use Rattle.nd_numeric.specs.ElementwiseArithmetic.{EachIsDivisor};
 
+use crate::folds_in_order::fold_in_any_order;
 use nd_array_core::laws::{elements_by_rank, nothing_outside};
 use nd_array_core::{ArrayBase, Data};
-use nd_iter::iter;
-use nd_numbers::Arithmetic;
+use nd_numbers::{Arithmetic, Operation};
 use nd_shape_and_slice::Dimension;
 
-/// Returns whether each element is allowed as a divisor.
-fn all_are_divisors<A: Arithmetic, S: Data<Elem = A>, D: Dimension>(array: &ArrayBase<S, D>) -> bool
-    ensures { result ≡ list_all A.is_divisor (row_major_elements (meaning_of array.now)) }
-{
-    iter(array).all(|x| x.is_divisor())
+/// The operation that returns whether the left side is true and the right number is allowed as a divisor.
+#[derive(Drop)]
+struct AndDivides;
+
+impl<A: Arithmetic> Operation<bool, A> for AndDivides {
+    ghost gives = { λ operation all x. all && A.is_divisor x };
+
+    #[inline]
+    fn apply(&self, all: &bool, x: &A) -> bool {
+        *all && x.is_divisor()
+    }
 }
+
+/// States that it doesn't matter in which order numbers are tested.
+fn order_is_free<A: Arithmetic>()
+    ensures { IsOrderFree (λ (all : Bool) (x : A). all && A.is_divisor x) }
+{}
 
 /// Returns whether each element is allowed as a divisor: an integer if it isn't 0, and any float. It is true exactly if
 /// the array meets the condition of `div` and `div_assign` on their right side. It asks for no memory. ndarray has no
@@ -28,5 +38,6 @@ pub fn are_divisors<A: Arithmetic, S: Data<Elem = A>, D: Dimension>(array: &Arra
 {
     elements_by_rank(array);
     nothing_outside(array);
-    all_are_divisors(array)
+    order_is_free::<A>();
+    fold_in_any_order(array, AndDivides, true)
 }

@@ -60,7 +60,7 @@ pub fn fold_in_order<O: Operation<B, A>, B: Drop, A, S: Data<Elem = A>, D: Dimen
 
 /// Returns the fold of all elements by `operation`, from `init` on, in an order that is free. The order of two elements
 /// must not matter to the operation.
-fn fold_in_any_order<O: Operation<B, A>, B: Drop, A, S: Data<Elem = A>, D: Dimension>(
+pub(crate) fn fold_in_any_order<O: Operation<B, A>, B: Drop, A, S: Data<Elem = A>, D: Dimension>(
     array: &ArrayBase<S, D>,
     operation: O,
     init: B,
@@ -102,6 +102,8 @@ pub(crate) fn fold_from_first<O: Operation<A, A>, A: Copy + Drop, S: Data<Elem =
     ensures { result ≡ reduce (O.gives operation) (row_major_elements (meaning_of array.now)) }
 {
     let mut elements = iter(array);
-    let first = elements.next()?;
-    Some(fold_all(array, operation, *first, is_free))
+    match elements.next() {
+        Some(first) => Some(fold_all(array, operation, *first, is_free)),
+        None => None,
+    }
 }

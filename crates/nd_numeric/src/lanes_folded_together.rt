@@ -1,6 +1,6 @@
 //! Folds of all lanes of an axis together: the elements at one coordinate are taken before those at the next.
 
-ghost use Rattle.std.specs.Prelude.{◌≡◌, ◌+◌, ◌<◌, IfOk, IsTrue, OnErr, length, slice_index};
+ghost use Rattle.std.specs.Prelude.{◌≡◌, ◌+◌, ◌<◌, IfOk, OnErr, length, slice_index};
 ghost use Rattle.nd_shape_and_slice.specs.ShapesAndIndexOrders.{size_of};
 ghost use Rattle.nd_shape_and_slice.specs.LayoutIndexMaps.{indexed_shape};
 ghost use Rattle.nd_array_core.specs.ArrayMeaning.{shape_of, element_at};
@@ -40,7 +40,6 @@ fn begin_across<S: Data, D: Dimension>(first: &ArrayBase<S, D>, stride: isize) -
 /// begin at contiguous places. Where they do, `fold_axis` takes them together itself.
 pub(crate) fn lie_across<S: Data, D: RemoveAxis>(array: &ArrayBase<S, D>, axis: Axis) -> bool
     requires { axis.0 < length (shape_of array.now) }
-    ensures { IsTrue result → 0 < slice_index (shape_of array.now) axis.0 }
 {
     if array.len_of(axis) == 0 {
         return false;
@@ -56,15 +55,13 @@ fn starts<B: Clone + Drop, A, S: Data<Elem = A>, D: RemoveAxis>(
     init: B,
 ) -> Result<Array<B, D::Smaller>, NoMemory>
     requires axis { axis.0 < length (shape_of array.now) }
-    requires some { 0 < slice_index (shape_of array.now) axis.0 }
     requires clones { ClonesAreEqual B.is_clone init }
     ensures shape { IfOk result (λ a. shape_of a ≡ indexed_shape (shape_of array.now) axis.0) }
     ensures folded { IfOk result (λ a. (h : B → A → B) → AreFoldsBelow h init array.now axis.0 0 (element_at a)) }
     ensures refused { OnErr result (0 < size_of (indexed_shape (shape_of array.now) axis.0)) }
 {
-    let first = array.index_axis(axis, 0);
-    shape_is_checked(&first);
-    Array::from_elem(alloc, first.raw_dim(), init)
+    shape_is_checked(array);
+    Array::from_elem(alloc, array.raw_dim().remove_axis(axis), init)
 }
 
 /// Applies `operation` to each total and the element of `part` at the same index, and writes the result over the total.
@@ -101,8 +98,7 @@ fn take_coordinate<O: Operation<B, A>, B: Drop, A, S: Data<Elem = A>, D: RemoveA
     take_part(totals, &part, operation);
 }
 
-/// Returns the array that has, for each lane of an axis, the lane's elements folded by `operation`. The axis must have a
-/// length of at least 1.
+/// Returns the array that has, for each lane of an axis, the lane's elements folded by `operation`.
 pub(crate) fn fold_by_coordinates<
     O: Operation<B, A> + Copy,
     B: Clone + Drop,
@@ -117,16 +113,19 @@ pub(crate) fn fold_by_coordinates<
     init: B,
 ) -> Result<Array<B, D::Smaller>, NoMemory>
     requires axis { axis.0 < length (shape_of array.now) }
-    requires some { 0 < slice_index (shape_of array.now) axis.0 }
     requires clones { ClonesAreEqual B.is_clone init }
     ensures shape { IfOk result (λ a. shape_of a ≡ indexed_shape (shape_of array.now) axis.0) }
     ensures folded { IfOk result (λ a. AreLaneFolds (O.gives operation) init array.now axis.0 (element_at a)) }
     ensures refused { OnErr result (0 < size_of (indexed_shape (shape_of array.now) axis.0)) }
 {
-    let mut totals = starts(alloc, array, axis, init)?;
-    let count = array.len_of(axis);
-    for coordinate in 0..count {
-        take_coordinate(&mut totals, array, axis, coordinate, operation);
+    match starts(alloc, array, axis, init) {
+        Ok(starts) => {
+            let mut totals = starts;
+            for coordinate in 0..array.len_of(axis) {
+                take_coordinate(&mut totals, array, axis, coordinate, operation);
+            }
+            Ok(totals)
+        }
+        Err(refusal) => Err(refusal),
     }
-    Ok(totals)
 }

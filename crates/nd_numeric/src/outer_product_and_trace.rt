@@ -1,29 +1,66 @@
 //! Tables: the outer product of two vectors, and the trace of a table.
 
-ghost use Rattle.std.specs.Prelude.{◌≡◌, ◌<◌, IfOk, OnErr, slice_index};
+ghost use Rattle.std.specs.Prelude.{◌≡◌, ◌<◌, ℕ, List, IfOk, IsSome, IsTrue, OnErr};
 ghost use Rattle.std.specs.List.{fold};
-ghost use Rattle.nd_shape_and_slice.specs.ShapesAndIndexOrders.{HasCheckedSize, size_of};
-ghost use Rattle.nd_array_core.specs.ArrayMeaning.{shape_of};
-ghost use Rattle.nd_numeric.specs.SumsProductsAndMeans.{diagonal_elements, outer_shape, outer_cell, HasOuterProducts};
+ghost use Rattle.nd_shape_and_slice.specs.ShapesAndIndexOrders.{HasCheckedSize, in_box, size_of};
+ghost use Rattle.nd_array_core.specs.ArrayMeaning.{element_at, shape_of};
+ghost use Rattle.nd_numeric.specs.ElementwiseArithmetic.{CanMeet, IsOfBoth};
+ghost use Rattle.nd_numeric.specs.SumsProductsAndMeans.{diagonal_elements, outer_shape, HasOuterProducts, MeetInCells};
 
-use nd_array_core::{Array2, ArrayBase, Data};
-use nd_numbers::Arithmetic;
-use nd_shape_and_slice::{Ix1, Ix2, NoMemory};
+use nd_array_core::laws::elements_by_rank;
+use nd_array_core::{Array, Array2, ArrayBase, ArrayView, Data};
+use nd_numbers::{Arithmetic, Operation, Times};
+use nd_shape_and_slice::{Dimension, Ix1, Ix2, NoMemory};
 use std::alloc::Global;
 
-/// Returns the product of the element of `one` at `row` and the element of `other` at `column`.
-#[tactic(auto, using(nd_array_core::proofs::AxesOfDimensionTypes::known_axes))]
-fn product_at<A: Arithmetic, S: Data<Elem = A>, Z: Data<Elem = A>>(
-    one: &ArrayBase<S, Ix1>,
-    other: &ArrayBase<Z, Ix1>,
-    row: usize,
-    column: usize,
-) -> A
-    requires row { row < slice_index (shape_of one.now) 0 }
-    requires column { column < slice_index (shape_of other.now) 0 }
-    ensures { result ≡ outer_cell A.times A.zero one.now other.now row column }
+/// States that an array has an element at each index inside its shape.
+fn has_elements<S: Data, D: Dimension>(array: &ArrayBase<S, D>)
+    ensures { (i : List ℕ) → IsTrue (in_box (shape_of array.now) i) → IsSome (element_at array.now i) }
 {
-    one[row].times(other[column])
+    elements_by_rank(array);
+}
+
+/// Returns a view of a table that has as many columns as `other` has elements, each of which consists of the elements of
+/// `one`. The size of the table must not overflow.
+fn columns_of<'a, A, S: Data<Elem = A>, Z: Data<Elem = A>>(
+    one: &'a ArrayBase<S, Ix1>,
+    other: &ArrayBase<Z, Ix1>,
+) -> ArrayView<'a, A, Ix2>
+    requires checked { HasCheckedSize (outer_shape (shape_of one.now) (shape_of other.now)) }
+    ensures shape { shape_of result ≡ outer_shape (shape_of one.now) (shape_of other.now) }
+    ensures meets { CanMeet result other.now }
+    ensures cells { (h : A → A → A) (x : A) → MeetInCells h x one.now other.now result }
+{
+    has_elements(one);
+    has_elements(other);
+    match one.broadcast((other.len(), one.len())) {
+        Some(rows) => rows.reversed_axes(),
+        None => unreachable!(),
+    }
+}
+
+/// Returns a new array of what `operation` returns for each element of `array` and the element of `other` at the same
+/// index. `other` is broadcast to the shape of `array`, which must be possible. Fails with `NoMemory` if the storage is
+/// refused.
+fn zipped<
+    A: Drop,
+    B,
+    O: Operation<A, B>,
+    S: Data<Elem = A>,
+    D: Dimension,
+    Z: Data<Elem = B>,
+    E: Dimension,
+>(
+    alloc: Global,
+    array: &ArrayBase<S, D>,
+    other: &ArrayBase<Z, E>,
+    operation: O,
+) -> Result<Array<A, D>, NoMemory>
+    requires { CanMeet array.now other.now }
+    ensures combined { IfOk result (IsOfBoth (O.gives operation) array.now other.now) }
+    ensures refused { OnErr result (0 < size_of (shape_of array.now)) }
+{
+    array.zip_map(alloc, other, |x, y| operation.apply(x, y))
 }
 
 /// Returns the outer product of two vectors: the table that has at each row and column the product of the element of
@@ -40,13 +77,7 @@ pub fn outer<A: Arithmetic, S: Data<Elem = A>, Z: Data<Elem = A>>(
     ensures products { IfOk result (HasOuterProducts A.times A.zero one.now other.now) }
     ensures refused { OnErr result (0 < size_of (outer_shape (shape_of one.now) (shape_of other.now))) }
 {
-    let rows = one.dim();
-    let columns = other.dim();
-    Array2::from_shape_fn(
-        alloc,
-        (rows, columns),
-        |(row, column)| product_at(one, other, row, column),
-    )
+    zipped(alloc, &columns_of(one, other), other, Times)
 }
 
 /// Returns the sum of the elements of a table whose two coordinates are equal. They are added to 0 one after another,

@@ -85,10 +85,14 @@ fn means_of<A: Arithmetic, S: Data<Elem = A>, D: RemoveAxis>(
     ensures means { IfOk result (HasMeans A.plus A.over A.zero A.of_count array.now axis.0) }
     ensures refused { OnErr result (0 < size_of (indexed_shape (shape_of array.now) axis.0)) }
 {
-    let mut means = sum_axis(alloc, array, axis)?;
-    let length = A::of_count(count);
-    combine_with_scalar(&mut means, length, Over);
-    Ok(means)
+    match sum_axis(alloc, array, axis) {
+        Ok(sums) => {
+            let mut means = sums;
+            combine_with_scalar(&mut means, A::of_count(count), Over);
+            Ok(means)
+        }
+        Err(refusal) => Err(refusal),
+    }
 }
 
 /// Returns the mean of each lane of an axis: its sum, as `sum_axis` returns it, divided by the lane's length. Returns

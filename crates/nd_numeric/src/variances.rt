@@ -3,18 +3,14 @@
 ghost use Rattle.std.specs.Prelude.{◌≡◌, ◌↔◌, ◌<◌, ◌≤◌, IsNone, IfSome, IfOk, OnErr, length, slice_index};
 ghost use Rattle.nd_shape_and_slice.specs.ShapesAndIndexOrders.{size_of};
 ghost use Rattle.nd_shape_and_slice.specs.LayoutIndexMaps.{indexed_shape};
-ghost use Rattle.nd_array_core.specs.ArrayMeaning.{meaning_of, shape_of, element_at};
-ghost use Rattle.nd_array_core.specs.ConcatenationAndSplit.{row_major_elements};
-ghost use Rattle.nd_array_core.specs.along.AxisMaps.{lane_seen, lanes_of};
-ghost use Rattle.nd_array_core.specs.Prelude.{IsMappedBy};
+ghost use Rattle.nd_array_core.specs.ArrayMeaning.{shape_of, element_at};
+ghost use Rattle.nd_array_core.specs.along.AxisMaps.{lane_seen};
 ghost use Rattle.nd_numeric.specs.SumsProductsAndMeans.{folded_in_order, IfMade};
-ghost use Rattle.nd_numeric.specs.Variances.{variance_in, variance_of_all, with_square, HasRoots, HasVariances, IsRootOfVariance, IsVarianceOf};
+ghost use Rattle.nd_numeric.specs.Variances.{root_if, variance_in, variance_of_all, with_square, AreOfVariances, HasRoots, HasVariances, IsRootOfVariance, IsVarianceOf};
 
 use crate::float_square_roots::Real;
 use crate::folds_in_order::fold_in_order;
 use crate::sums_of_all_elements::sum;
-use nd_array_core::arithmetic::combine_with_scalar;
-use nd_array_core::laws::lanes_are_folded;
 use nd_array_core::{Array, ArrayBase, Data, LaneView};
 use nd_numbers::{Arithmetic, Operation};
 use nd_shape_and_slice::{Axis, Dimension, NoMemory, RemoveAxis};
@@ -79,32 +75,37 @@ pub fn std<A: Real, S: Data<Elem = A>, D: Dimension>(
     ensures none { IsNone result ↔ (size_of (shape_of array.now) ≤ ddof) }
     ensures root { IfSome result (IsRootOfVariance A.plus A.minus A.times A.over A.zero A.of_count A.root ddof array.now) }
 {
-    let variance = var(array, ddof)?;
-    Some(variance.root())
+    if array.len() <= ddof {
+        return None;
+    }
+    Some(variance(array, ddof).root())
 }
 
-/// Returns the variance of a lane.
-fn variance_of_lane<A: Real>(lane: LaneView<'_, A>, ddof: usize) -> A
+/// Returns the variance of a lane if `is_root` is false, and otherwise its square root.
+fn spread_of_lane<A: Real>(lane: LaneView<'_, A>, ddof: usize, is_root: bool) -> A
     requires { ddof < size_of (lane_seen lane).shape }
-    ensures { result ≡ variance_in A.plus A.minus A.times A.over A.zero A.of_count ddof (lane_seen lane.entry) }
+    ensures { result ≡ root_if A.root is_root (variance_in A.plus A.minus A.times A.over A.zero A.of_count ddof (lane_seen lane.entry)) }
 {
-    variance(&lane.into_view(), ddof)
+    let variance = variance(&lane.into_view(), ddof);
+    if is_root { variance.root() } else { variance }
 }
 
-/// Returns the variance of each lane of an axis, which must be longer than `ddof`.
-fn variances_of<A: Real, S: Data<Elem = A>, D: RemoveAxis>(
+/// Returns the variance of each lane of an axis if `is_root` is false, and otherwise its square root. The axis must be
+/// longer than `ddof`.
+fn spreads_of<A: Real, S: Data<Elem = A>, D: RemoveAxis>(
     alloc: Global,
     array: &ArrayBase<S, D>,
     axis: Axis,
     ddof: usize,
+    is_root: bool,
 ) -> Result<Array<A, D::Smaller>, NoMemory>
     requires axis { axis.0 < length (shape_of array.now) }
     requires enough { ddof < slice_index (shape_of array.now) axis.0 }
     ensures shape { IfOk result (λ a. shape_of a ≡ indexed_shape (shape_of array.now) axis.0) }
-    ensures variances { IfOk result (λ a. IsMappedBy (variance_in A.plus A.minus A.times A.over A.zero A.of_count ddof) (lanes_of (meaning_of array.now) axis.0).at (element_at a)) }
+    ensures spreads { IfOk result (λ a. AreOfVariances A.plus A.minus A.times A.over A.zero A.of_count (root_if A.root is_root) ddof array.now axis.0 (element_at a)) }
     ensures refused { OnErr result (0 < size_of (indexed_shape (shape_of array.now) axis.0)) }
 {
-    array.map_axis(alloc, axis, |lane| variance_of_lane(lane, ddof))
+    array.map_axis(alloc, axis, |lane| spread_of_lane(lane, ddof, is_root))
 }
 
 /// Returns the variance of each lane of an axis: that of its elements, as `var` returns it. Returns `None` if the axis
@@ -125,38 +126,7 @@ pub fn var_axis<A: Real, S: Data<Elem = A>, D: RemoveAxis>(
     if array.len_of(axis) <= ddof {
         return None;
     }
-    Some(variances_of(alloc, array, axis, ddof))
-}
-
-/// The operation that takes the square root of the left number. Its right side is ignored.
-#[derive(Drop)]
-struct Root;
-
-impl<A: Real> Operation<A, ()> for Root {
-    ghost gives = { λ operation x nothing. A.root x };
-
-    #[inline]
-    fn apply(&self, x: &A, _: &()) -> A {
-        x.root()
-    }
-}
-
-/// Returns the standard deviation of each lane of an axis, which must be longer than `ddof`.
-fn deviations_of<A: Real, S: Data<Elem = A>, D: RemoveAxis>(
-    alloc: Global,
-    array: &ArrayBase<S, D>,
-    axis: Axis,
-    ddof: usize,
-) -> Result<Array<A, D::Smaller>, NoMemory>
-    requires axis { axis.0 < length (shape_of array.now) }
-    requires enough { ddof < slice_index (shape_of array.now) axis.0 }
-    ensures shape { IfOk result (λ a. shape_of a ≡ indexed_shape (shape_of array.now) axis.0) }
-    ensures roots { IfOk result (HasRoots A.plus A.minus A.times A.over A.zero A.of_count A.root ddof array.now axis.0) }
-    ensures refused { OnErr result (0 < size_of (indexed_shape (shape_of array.now) axis.0)) }
-{
-    let mut deviations = variances_of(alloc, array, axis, ddof)?;
-    combine_with_scalar(&mut deviations, (), Root);
-    Ok(deviations)
+    Some(spreads_of(alloc, array, axis, ddof, false))
 }
 
 /// Returns the standard deviation of each lane of an axis: that of its elements, as `std` returns it. Returns `None` if
@@ -177,5 +147,5 @@ pub fn std_axis<A: Real, S: Data<Elem = A>, D: RemoveAxis>(
     if array.len_of(axis) <= ddof {
         return None;
     }
-    Some(deviations_of(alloc, array, axis, ddof))
+    Some(spreads_of(alloc, array, axis, ddof, true))
 }

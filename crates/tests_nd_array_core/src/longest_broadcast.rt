@@ -1,5 +1,5 @@
 //! The longest broadcast. That broadcasts have the elements that they should, and where there is none, is shown by
-//! `squeezed_and_inserted` of `tests_nd_run`.
+//! `squeezed_and_inserted` of `tests_nd_run_npy_and_picture`.
 
 use nd_array_core::{Array1, ArrayView1};
 use nd_shape_and_slice::{Axis, Slice, slice_fits};

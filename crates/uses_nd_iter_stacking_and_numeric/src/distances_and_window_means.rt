@@ -38,7 +38,7 @@ fn window_of<'a, S: Data<Elem = f64>>(
     requires { from + width ≤ slice_index (shape_of list.now) 0 }
     ensures { ShowsLine result (line_part from width (line_of list.now)) }
 {
-    list.slice(s![from..from + width])
+    list.slice_axis(Axis(0), Slice::between(from, from + width))
 }
 
 /// Returns the sum of the `width` numbers of `list` that begin at the coordinate `from`.

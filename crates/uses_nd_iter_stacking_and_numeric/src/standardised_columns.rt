@@ -1,7 +1,7 @@
 //! Divides the columns of a table of floats by their sums, subtracts from the columns their means, and standardises them.
 #![tactic(auto, using(std::proofs::lemmas::Bool::Decides::nat_tests, nd_array_core::proofs::AxesOfDimensionTypes::known_axes))]
 
-ghost use Rattle.std.specs.Prelude.{◌≡◌, IfOk, IfSome, IsNone, OnErr, OnOk};
+ghost use Rattle.std.specs.Prelude.{◌≡◌, ◌<◌, IfOk, OnErr, OnOk};
 ghost use Rattle.std.specs.Float.{binary64};
 ghost use Rattle.std.specs.Float.Ieee.{div, sub};
 ghost use Rattle.nd_array_core.specs.Prelude.{meaning_of, columns_of, rows_of, line_of, table_of, HasLength, ShowsLine, ShowsTable};
@@ -48,18 +48,17 @@ pub fn normalise_columns<S: DataMut<Elem = f64>>(
     Ok(())
 }
 
-/// Returns the mean of each column, or `None` if there are no rows.
+/// Returns the mean of each column of a table that has rows.
 fn means_of_columns<S: Data<Elem = f64>>(
     alloc: Global,
     table: &ArrayBase<S, Ix2>,
-) -> Result<Option<Array1<f64>>, NoMemory>
-    ensures none { IfOk result (λ made. IsNone made → rows_of table.now ≡ 0) }
-    ensures means { IfOk result (λ made. IfSome made (λ means. ShowsLine means (column_means (table_of table.now)))) }
+) -> Result<Array1<f64>, NoMemory>
+    requires { 0 < rows_of table.now }
+    ensures { IfOk result (λ means. ShowsLine means (column_means (table_of table.now))) }
 {
     match mean_axis(alloc, table, Axis(0)) {
-        None => Ok(None),
-        Some(Ok(means)) => Ok(Some(means)),
-        Some(Err(error)) => Err(error),
+        Some(means) => means,
+        None => unreachable!(),
     }
 }
 
@@ -84,24 +83,25 @@ pub fn centre_columns<S: DataMut<Elem = f64>>(
     ensures centred { OnOk result (ShowsTable table.new (centred (table_of table.old))) }
     ensures kept { OnErr result (meaning_of table.new ≡ meaning_of table.old) }
 {
-    if let Some(means) = means_of_columns(alloc, table)? {
-        move_columns(table, &means);
+    if table.nrows() == 0 {
+        return Ok(());
     }
+    let means = means_of_columns(alloc, table)?;
+    move_columns(table, &means);
     Ok(())
 }
 
-/// Returns the standard deviation of each column, or `None` if there are no rows.
+/// Returns the standard deviation of each column of a table that has rows.
 fn deviations_of_columns<S: Data<Elem = f64>>(
     alloc: Global,
     table: &ArrayBase<S, Ix2>,
-) -> Result<Option<Array1<f64>>, NoMemory>
-    ensures none { IfOk result (λ made. IsNone made → rows_of table.now ≡ 0) }
-    ensures roots { IfOk result (λ made. IfSome made (λ roots. ShowsLine roots (column_deviations (table_of table.now)))) }
+) -> Result<Array1<f64>, NoMemory>
+    requires { 0 < rows_of table.now }
+    ensures { IfOk result (λ roots. ShowsLine roots (column_deviations (table_of table.now))) }
 {
     match std_axis(alloc, table, Axis(0), 0) {
-        None => Ok(None),
-        Some(Ok(deviations)) => Ok(Some(deviations)),
-        Some(Err(error)) => Err(error),
+        Some(deviations) => deviations,
+        None => unreachable!(),
     }
 }
 
@@ -114,11 +114,12 @@ pub fn standardise_columns<S: DataMut<Elem = f64>>(
     ensures standardised { OnOk result (ShowsTable table.new (standardised (table_of table.old))) }
     ensures kept { OnErr result (meaning_of table.new ≡ meaning_of table.old) }
 {
+    if table.nrows() == 0 {
+        return Ok(());
+    }
     let means = means_of_columns(alloc, table)?;
     let deviations = deviations_of_columns(alloc, table)?;
-    if let (Some(means), Some(deviations)) = (means, deviations) {
-        move_columns(table, &means);
-        divide_columns(table, &deviations);
-    }
+    move_columns(table, &means);
+    divide_columns(table, &deviations);
     Ok(())
 }

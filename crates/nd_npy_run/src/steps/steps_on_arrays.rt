@@ -52,17 +52,18 @@ fn all_below(indexes: &[usize], len: usize) -> bool
     indexes.iter().all(|k| *k < len)
 }
 
-/// Checks that the coordinates `indexes` of `axis` can be chosen. Fails with the first cause against it.
-fn check_choice<S: Data>(
-    array: &ArrayBase<S, IxDyn>,
-    axis: usize,
-    indexes: &[usize],
-) -> Result<(), Cause>
-    ensures { Refuses result (first_failed (choice_tests axis indexes.now (shape_of array.now))) }
+/// Checks that the coordinates `indexes` of `axis` can be chosen from an array of the dimension `dim`. Fails with the
+/// first cause against it.
+fn check_choice(dim: IxDyn, axis: usize, indexes: &[usize]) -> Result<(), Cause>
+    ensures { Refuses result (first_failed (choice_tests axis indexes.now (⟦<IxDyn as Dimension>⟧.lengths dim))) }
 {
-    let mut dim = array.raw_dim();
-    check(axis < dim.ndim(), Cause::Axis)?;
-    check(all_below(indexes, array.len_of(Axis(axis))), Cause::Index)?;
+    let mut dim = dim;
+    if axis >= dim.ndim() {
+        return Err(Cause::Axis);
+    }
+    if !all_below(indexes, dim.length(axis)) {
+        return Err(Cause::Index);
+    }
     dim.set_length(axis, indexes.len());
     check(size_of_shape_checked(dim.slice()).is_ok(), Cause::Overflow)
 }
@@ -78,7 +79,7 @@ fn chosen<A: Clone + Drop>(
     requires { EachCloneIsEqual A.is_clone }
     ensures { GivesArrayAfterStep meaning_of number (Chosen axis indexes.now) (meaning_of array.now) result }
 {
-    match check_choice(array, axis, indexes) {
+    match check_choice(array.raw_dim(), axis, indexes) {
         Ok(()) => match array.select(alloc, Axis(axis), indexes) {
             Ok(selected) => Ok(selected),
             Err(_) => Err(NpyStepsError::Memory),

@@ -1,6 +1,8 @@
 //! Arithmetic on floats, and the sum and the product of two numbers of each type. Each call gets its storage here.
 
-use crate::numeric::tables_in_three_layouts::{float_list, floats, lists_floats, pair};
+use crate::numeric::tables_in_three_layouts::{
+    float_list, floats_by, is_number, lists_floats, pair,
+};
 use crate::numeric::totals::totals;
 use nd_array_core::{Array1, ArrayBase, Data, DataMut};
 use nd_numeric::{Reorderable, add_scalar, mul_assign_scalar, product, sum, var};
@@ -13,14 +15,6 @@ fn sums_are<S: Data<Elem = f64>>(alloc: Global, list: &ArrayBase<S, Ix1>, wanted
     match add_scalar(alloc, list, 0.5) {
         Ok(sums) => lists_floats(&sums, wanted),
         Err(_) => false,
-    }
-}
-
-/// Returns whether a number is there and is this one.
-fn is_number(found: Option<f64>, wanted: f64) -> bool {
-    match found {
-        Some(number) => number == wanted,
-        None => false,
     }
 }
 
@@ -60,15 +54,26 @@ fn adds_up_to<S: Data<Elem = f64>, D: Dimension>(
     sum == wanted && total_in_order(array) == wanted && is_number(mean, wanted_mean)
 }
 
-/// Sums of floats go in row-major order. In that order these numbers have the sum 1, and those of the transpose the sum 3,
-/// as numpy's `cumsum` has it.
-fn sums_in_row_major_order(alloc: Global) -> bool {
-    match floats(alloc, (3, 2), &[1e16, 1.0, 1.0, 1.0, -1e16, 1.0]) {
-        Some(table) => {
-            adds_up_to(&table.view(), 1.0, 0.16666666666666666) && adds_up_to(&table.t(), 3.0, 0.5)
-        }
+/// Returns whether a table of this shape and with these strides has this sum and this mean. It is stored as numbers
+/// whose sum rests on their order.
+fn table_adds_up(
+    alloc: Global,
+    shape: (usize, usize),
+    strides: [isize; 2],
+    wanted: f64,
+    wanted_mean: f64,
+) -> bool {
+    match floats_by(alloc, shape, strides, &[1e16, 1.0, 1.0, 1.0, -1e16, 1.0]) {
+        Some(table) => adds_up_to(&table, wanted, wanted_mean),
         None => false,
     }
+}
+
+/// Returns whether sums of floats go in row-major order. In that order the numbers of three rows have the sum 1, and
+/// those of the transpose the sum 3, as numpy's `cumsum` has it.
+fn sums_in_row_major_order(alloc: Global) -> bool {
+    table_adds_up(alloc, (3, 2), [2, 1], 1.0, 0.16666666666666666)
+        && table_adds_up(alloc, (2, 3), [1, 2], 3.0, 0.5)
 }
 
 /// Returns whether two numbers have this sum and this product.

@@ -1,11 +1,11 @@
 //! The indexes of the least and the greatest element, and the least and the greatest element of each lane. Each call
 //! gets its storage here.
 
-use crate::numeric::tables_in_three_layouts::{STRIDES, float_list, lists};
+use crate::numeric::tables_in_three_layouts::{float_list, lists};
 use crate::numeric::totals::{ends_at, totals};
-use nd_array_core::{ArrayBase, Data};
+use nd_array_core::{Array2, ArrayBase, Data};
 use nd_numeric::{max_axis, min_axis};
-use nd_shape_and_slice::{Axis, Ix2, RemoveAxis};
+use nd_shape_and_slice::{Axis, RemoveAxis};
 use nd_test_arrays::{table, table_by};
 use std::alloc::Global;
 
@@ -46,22 +46,27 @@ fn lane_ends_are<S: Data<Elem = u64>, D: RemoveAxis>(
         && lists(max_axis(alloc, table, Axis(1)), wanted.1)
 }
 
-/// Returns whether the least and greatest elements of a table, and their indexes, are these.
-fn ends_are_right<S: Data<Elem = u64>>(
-    alloc: Global,
-    table: &ArrayBase<S, Ix2>,
-    wanted: &Ends,
-) -> bool {
-    let (least, greatest) = ends_at(table);
-    lane_ends_are(alloc, table, wanted) && least == wanted.2 && greatest == wanted.3
+/// Returns whether there is a table, and its least and greatest elements, and their indexes, are these.
+fn ends_are_right(alloc: Global, made: Option<Array2<u64>>, wanted: &Ends) -> bool {
+    match made {
+        Some(table) => {
+            let (least, greatest) = ends_at(&table);
+            lane_ends_are(alloc, &table, wanted) && least == wanted.2 && greatest == wanted.3
+        }
+        None => false,
+    }
 }
 
-// What the table 5 1 9 / 9 3 1 is stored as, in each layout.
-const STORED: [&[u64]; 3] = [
-    &[5, 1, 9, 9, 3, 1],
-    &[5, 9, 1, 3, 9, 1],
-    &[9, 0, 1, 0, 5, 0, 1, 0, 3, 0, 9],
-];
+/// Returns the table 5 1 9 / 9 3 1 in row-major order for 0, in column-major order for 1, and with steps for 2. For
+/// other numbers it returns a table of two columns without rows. Returns `None` where memory is refused.
+fn table_in(alloc: Global, layout: usize) -> Option<Array2<u64>> {
+    match layout {
+        0 => table_by(alloc, (2, 3), [3, 1], &[5, 1, 9, 9, 3, 1]),
+        1 => table_by(alloc, (2, 3), [1, 2], &[5, 9, 1, 3, 9, 1]),
+        2 => table_by(alloc, (2, 3), [6, -2], &[9, 0, 1, 0, 5, 0, 1, 0, 3, 0, 9]),
+        _ => table(alloc, (0, 2), &[]),
+    }
+}
 
 const ENDS: Ends = (
     &[Some(5), Some(1), Some(1)],
@@ -72,20 +77,14 @@ const ENDS: Ends = (
 
 const OF_NOTHING: Ends = (&[None, None], &[], None, None);
 
+/// Returns whether the ends of the table in each layout, and those of a table without rows, are right.
 fn ends_in_each_layout(alloc: Global) -> bool {
-    for k in 0..3usize {
-        let right = match table_by(alloc, (2, 3), STRIDES[k], STORED[k]) {
-            Some(table) => ends_are_right(alloc, &table, &ENDS),
-            None => false,
-        };
-        if !right {
+    for layout in 0..3usize {
+        if !ends_are_right(alloc, table_in(alloc, layout), &ENDS) {
             return false;
         }
     }
-    match table(alloc, (0, 2), &[]) {
-        Some(none) => ends_are_right(alloc, &none, &OF_NOTHING),
-        None => false,
-    }
+    ends_are_right(alloc, table_in(alloc, 3), &OF_NOTHING)
 }
 
 /// Returns whether the least and the greatest number of a list, and their positions, are those at these positions.
@@ -126,6 +125,7 @@ fn is_at(items: &[f64], position: Option<usize>, number: Option<f64>) -> bool {
     }
 }
 
+/// Returns whether the ends of all lists of floats are right.
 fn ends_of_floats(alloc: Global) -> bool {
     for (items, least, greatest) in &FLOATS {
         if !list_ends_are(alloc, *items, *least, *greatest) {

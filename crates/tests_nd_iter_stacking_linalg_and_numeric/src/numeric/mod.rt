@@ -1,5 +1,4 @@
 //! Tests of `nd_numeric` and of the operators of arrays, by their public calls.
-#![tactic(auto, using(nd_array_core::proofs::AxesOfDimensionTypes::known_axes))]
 
 mod arithmetic;
 mod arithmetic_with_a_number;
@@ -12,5 +11,6 @@ mod normalise_diffuse_and_cluster;
 mod operators;
 mod sums_products_and_means;
 mod tables_in_three_layouts;
+mod tables_with_a_row;
 mod totals;
 mod variances;

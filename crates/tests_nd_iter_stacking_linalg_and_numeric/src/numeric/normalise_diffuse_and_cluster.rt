@@ -1,7 +1,8 @@
 //! What callers of `nd_numeric` make of small tables and lists of floats. Each call finds storage here. numpy 1.24 computed
 //! the numbers of the grid and of the points.
+#![tactic(auto, using(nd_array_core::proofs::AxesOfDimensionTypes::known_axes))]
 
-use crate::numeric::tables_in_three_layouts::{float_list, floats, floats_by, has, lists_floats};
+use crate::numeric::tables_in_three_layouts::{float_list, floats_by, has, lists_floats};
 use nd_array_core::{Array1, Array2, ArrayBase, Data, DataMut};
 use nd_shape_and_slice::{Dimension, Ix2};
 use std::alloc::Global;
@@ -92,17 +93,14 @@ fn distances_are<S: Data<Elem = f64>, Z: Data<Elem = f64>, D: Dimension>(
     are_apart(one, other, wanted) && are_apart(one, one, 0.0)
 }
 
-/// Returns whether a table and the transpose of 0 1 / 4 0 are as far apart as they should be.
-fn distances_from(alloc: Global, one: &Array2<f64>) -> bool {
-    match floats(alloc, (2, 2), &[0.0, 1.0, 4.0, 0.0]) {
-        Some(other) => distances_are(&one.view(), &other.t(), 14.25),
-        None => false,
-    }
-}
-
+/// Returns whether a table and the transpose of 0 1 / 4 0, which lies in column-major order, are as far apart as they
+/// should be.
 fn distances(alloc: Global) -> bool {
-    match floats(alloc, (2, 2), &[1.0, 2.0, 4.0, 0.5]) {
-        Some(one) => distances_from(alloc, &one),
+    let Some(one) = floats_by(alloc, (2, 2), [2, 1], &[1.0, 2.0, 4.0, 0.5]) else {
+        return false;
+    };
+    match floats_by(alloc, (2, 2), [1, 2], &[0.0, 1.0, 4.0, 0.0]) {
+        Some(other) => distances_are(&one, &other, 14.25),
         None => false,
     }
 }
@@ -142,31 +140,31 @@ const GRID: [f64; 16] = [
     0.0, 0.0, 0.0, 0.0, 0.0, 8.0, 4.0, 0.0, 0.0, 2.0, 6.0, 0.0, 1.0, 0.0, 0.0, 0.0,
 ];
 
-/// The grid after a step of heat diffusion with the rate 0.25, and the transpose of what that gives.
-const HEATED: [[f64; 16]; 2] = [
-    [
-        0.0, 0.0, 0.0, 0.0, 0.0, 1.5, 3.5, 0.0, 0.0, 3.5, 1.5, 0.0, 1.0, 0.0, 0.0, 0.0,
-    ],
-    [
-        0.0, 0.0, 0.0, 1.0, 0.0, 1.5, 3.5, 0.0, 0.0, 3.5, 1.5, 0.0, 0.0, 0.0, 0.0, 0.0,
-    ],
+/// The grid after a step of heat diffusion with the rate 0.25.
+const HEATED: [f64; 16] = [
+    0.0, 0.0, 0.0, 0.0, 0.0, 1.5, 3.5, 0.0, 0.0, 3.5, 1.5, 0.0, 1.0, 0.0, 0.0, 0.0,
 ];
 
-/// Returns whether a grid is this one after a step of heat diffusion with the rate 0.25.
-fn becomes<S: Data<Elem = f64>>(alloc: Global, grid: &ArrayBase<S, Ix2>, wanted: &[f64]) -> bool {
-    match heat_step(alloc, grid, 0.25) {
+/// The transpose of the grid after that step.
+const TURNED: [f64; 16] = [
+    0.0, 0.0, 0.0, 1.0, 0.0, 1.5, 3.5, 0.0, 0.0, 3.5, 1.5, 0.0, 0.0, 0.0, 0.0, 0.0,
+];
+
+/// Returns whether the grid, or its transpose, as the strides say, is this one after a step of heat diffusion with the
+/// rate 0.25.
+fn becomes(alloc: Global, strides: [isize; 2], wanted: &[f64]) -> bool {
+    let Some(grid) = floats_by(alloc, (4, 4), strides, &GRID) else {
+        return false;
+    };
+    match heat_step(alloc, &grid, 0.25) {
         Ok(next) => has(&next, wanted),
         Err(_) => false,
     }
 }
 
+/// Returns whether the grid and its transpose are right after a step of heat diffusion.
 fn heat(alloc: Global) -> bool {
-    match floats(alloc, (4, 4), &GRID) {
-        Some(grid) => {
-            becomes(alloc, &grid.view(), &HEATED[0]) && becomes(alloc, &grid.t(), &HEATED[1])
-        }
-        None => false,
-    }
+    becomes(alloc, [4, 1], &HEATED) && becomes(alloc, [1, 4], &TURNED)
 }
 
 /// Points, centres, and the number of the nearest centre of each point; points and centres in a plane, one after another.
@@ -201,10 +199,22 @@ fn assigned_are(
     }
 }
 
+/// Returns the table of points in a plane, whose coordinates come one after another. Returns `None` where memory is
+/// refused.
+fn points_of(alloc: Global, coordinates: &[f64]) -> Option<Array2<f64>> {
+    // Of a table without rows no stride may leave the storage.
+    let strides = if coordinates.is_empty() {
+        [0, 0]
+    } else {
+        [2, 1]
+    };
+    floats_by(alloc, (coordinates.len() / 2, 2), strides, coordinates)
+}
+
 /// Returns whether the nearest centres of points in a plane have these numbers.
 fn nearest_are(alloc: Global, points: &[f64], centres: &[f64], wanted: &[usize]) -> bool {
-    match floats(alloc, (points.len() / 2, 2), points) {
-        Some(points) => match floats(alloc, (centres.len() / 2, 2), centres) {
+    match points_of(alloc, points) {
+        Some(points) => match points_of(alloc, centres) {
             Some(centres) => assigned_are(alloc, &points, &centres, wanted),
             None => false,
         },

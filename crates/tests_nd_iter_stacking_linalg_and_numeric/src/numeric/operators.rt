@@ -1,17 +1,17 @@
 //! Operators on tables in row-major order, in column-major order, with steps between the elements, and without rows.
 //! Each call gets its storage here.
 
-use crate::numeric::tables_in_three_layouts::{ELEVEN_ON, STRIDES, float_list, gives, meets};
+ghost use Rattle.nd_array_core.specs.arithmetic.ElementwiseArithmetic.{CanMeet};
+
+use crate::numeric::tables_in_three_layouts::{eleven_on, float_list, gives, meets};
+use crate::numeric::tables_with_a_row::{Tested, all_are_right, part_stores};
 use nd_array_core::{Array, Array1, Array2, ArrayBase, Data, DataMut};
 use nd_shape_and_slice::{Dimension, NdIndex};
-use nd_test_arrays::{is_table, list, shows, table, table_by};
+use nd_test_arrays::{is_table, list, shows, table};
 use std::alloc::Global;
 
-/// The results of operators by value on 11 to 16 and the row 1 2 3.
-const MADE: [u64; 6] = [162, 112, 48, 152, 92, 18];
-
 /// What operators in place leave of 11 to 16 with the row 1 2 3.
-const LEFT: [u64; 6] = [38, 88, 152, 48, 108, 182];
+const LEFT: [[u64; 6]; 1] = [[38, 88, 152, 48, 108, 182]];
 
 /// Returns what operators by value make of a table and single numbers. Like the other functions here over any storage and
 /// number of axes, it would take longer to prove at known types.
@@ -44,19 +44,17 @@ fn change_by_numbers<S: DataMut<Elem = u64>, D: Dimension>(table: &mut ArrayBase
     *table /= 3;
 }
 
-/// Returns whether a row can be broadcast to a table, and the operators in place on both leave these numbers.
-fn leaves<S: DataMut<Elem = u64>, D: Dimension, Z: Data<Elem = u64>, E: Dimension>(
-    table: &mut ArrayBase<S, D>,
-    row: &ArrayBase<Z, E>,
-    shape: [usize; 2],
-    wanted: &[u64],
-) -> bool
+/// Returns whether the operators in place on a table and a row leave these numbers.
+pub(crate) fn operators_leave<
+    S: DataMut<Elem = u64>,
+    D: Dimension,
+    Z: Data<Elem = u64>,
+    E: Dimension,
+>(table: &mut ArrayBase<S, D>, row: &ArrayBase<Z, E>, shape: [usize; 2], wanted: &[u64]) -> bool
 where
     [usize; 2]: NdIndex<D>,
+    requires { CanMeet table.old row.now }
 {
-    if !meets(table, row) {
-        return false;
-    }
     *table += row;
     *table *= row;
     *table -= row;
@@ -80,53 +78,22 @@ fn gives_in_place(
     }
 }
 
-/// Returns whether the operators in place leave these numbers in a table that is made.
-fn leaves_in_place(
-    made: Option<Array2<u64>>,
-    row: &Array1<u64>,
-    shape: [usize; 2],
-    wanted: &[u64],
-) -> bool {
-    match made {
-        Some(made) => {
-            let mut table = made;
-            leaves(&mut table, row, shape, wanted)
-        }
-        None => false,
-    }
-}
-
-fn rows_and_columns(alloc: Global) -> bool {
+/// Returns whether the operators by value are right for a table in each layout and for one without rows.
+fn by_value(alloc: Global) -> bool {
     let Some(row) = list(alloc, &[1, 2, 3]) else {
         return false;
     };
-    for k in 0..3usize {
-        let one = table_by(alloc, (2, 3), STRIDES[k], ELEVEN_ON[k]);
-        if !gives_in_place(one, &row, [2, 3], &MADE) {
-            return false;
-        }
-        let other = table_by(alloc, (2, 3), STRIDES[k], ELEVEN_ON[k]);
-        if !leaves_in_place(other, &row, [2, 3], &LEFT) {
+    for layout in 0..3usize {
+        if !gives_in_place(
+            eleven_on(alloc, layout),
+            &row,
+            [2, 3],
+            &[162, 112, 48, 152, 92, 18],
+        ) {
             return false;
         }
     }
-    gives_in_place(table(alloc, (0, 3), &[]), &row, [0, 3], &[])
-}
-
-// What lies between the elements of a part with steps stays.
-fn parts_with_steps(alloc: Global) -> bool {
-    let Some(row) = list(alloc, &[1, 2, 3]) else {
-        return false;
-    };
-    match table_by(alloc, (2, 3), [6, -2], ELEVEN_ON[2]) {
-        Some(made) => {
-            let mut part = made;
-            leaves(&mut part, &row, [2, 3], &LEFT)
-                && part.into_raw_vec().as_slice()
-                    == [152, 9, 88, 9, 38, 9, 182, 9, 108, 9, 48].as_slice()
-        }
-        None => false,
-    }
+    gives_in_place(eleven_on(alloc, 3), &row, [0, 3], &[])
 }
 
 /// Returns whether one array can be broadcast to another one, and the operators by reference on 1 2 3 and the greatest
@@ -155,9 +122,9 @@ fn by_reference(alloc: Global) -> bool {
 }
 
 /// Returns the second element of a list halved by reference.
-fn half<D: Dimension, Z: Data<Elem = f64>, E: Dimension>(
+fn half<D: Dimension, Z: Data<Elem = f64>>(
     list: &Array<f64, D>,
-    two: &ArrayBase<Z, E>,
+    two: &ArrayBase<Z, D>,
 ) -> Option<f64>
 where
     usize: NdIndex<D>,
@@ -173,9 +140,9 @@ where
 
 /// Returns whether a list that is halved, reduced by 0.5 and negated has the third element 2, and the second one -0.375
 /// after another halving.
-fn is_halved<S: DataMut<Elem = f64> + Drop, D: Dimension, Z: Data<Elem = f64>, E: Dimension>(
+fn is_halved<S: DataMut<Elem = f64> + Drop, D: Dimension, Z: Data<Elem = f64>>(
     list: ArrayBase<S, D>,
-    two: &ArrayBase<Z, E>,
+    two: &ArrayBase<Z, D>,
 ) -> bool
 where
     usize: NdIndex<D>,
@@ -203,6 +170,8 @@ fn floats(alloc: Global) -> bool {
 
 #[test]
 fn operated(rt: HostRuntime) {
-    assert!(rt; rows_and_columns(rt.alloc()) && parts_with_steps(rt.alloc()));
-    assert!(rt; by_reference(rt.alloc()) && floats(rt.alloc()));
+    let alloc = rt.alloc();
+    assert!(rt; by_value(alloc) && all_are_right(alloc, Tested::OperatorsInPlace, &LEFT));
+    assert!(rt; part_stores(alloc, &LEFT, &[152, 9, 88, 9, 38, 9, 182, 9, 108, 9, 48]));
+    assert!(rt; by_reference(alloc) && floats(alloc));
 }

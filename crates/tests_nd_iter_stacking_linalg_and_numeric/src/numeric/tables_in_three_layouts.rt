@@ -4,27 +4,44 @@ ghost use Rattle.std.specs.Prelude.{IsTrue};
 ghost use Rattle.nd_array_core.specs.arithmetic.ElementwiseArithmetic.{CanMeet};
 
 use nd_array_core::{Array, Array1, Array2, ArrayBase, Data};
-use nd_shape_and_slice::{Dimension, IntoStrideShape, Ix1, Ix2, NdIndex, NoMemory, ShapeBuilder};
-use nd_test_arrays::shows;
+use nd_shape_and_slice::{Dimension, Ix1, Ix2, NdIndex, NoMemory, ShapeBuilder};
+use nd_test_arrays::{shows, table_by};
 use std::alloc::Global;
 
-/// The strides of a table of two rows and three columns: in row-major order, in column-major order, and with steps between
-/// the columns, which go backwards.
-pub const STRIDES: [[isize; 2]; 3] = [[3, 1], [1, 2], [6, -2]];
+/// Returns the table 1 2 3 / 4 5 6 in row-major order for 0, in column-major order for 1, and with steps between the
+/// columns, which go backwards, for 2. For other numbers it returns a table of three columns without rows. Returns
+/// `None` where memory is refused.
+pub fn one_to_six(alloc: Global, layout: usize) -> Option<Array2<u64>> {
+    match layout {
+        0 => table_by(alloc, (2, 3), [3, 1], &[1, 2, 3, 4, 5, 6]),
+        1 => table_by(alloc, (2, 3), [1, 2], &[1, 4, 2, 5, 3, 6]),
+        2 => table_by(alloc, (2, 3), [6, -2], &[3, 9, 2, 9, 1, 9, 6, 9, 5, 9, 4]),
+        _ => table_by(alloc, (0, 3), [0, 0], &[]),
+    }
+}
 
-/// What such tables of 1 2 3 / 4 5 6 are stored as.
-pub const ONE_TO_SIX: [&[u64]; 3] = [
-    &[1, 2, 3, 4, 5, 6],
-    &[1, 4, 2, 5, 3, 6],
-    &[3, 9, 2, 9, 1, 9, 6, 9, 5, 9, 4],
-];
+/// Returns the table 11 12 13 / 14 15 16 in a layout, or one without rows, as `one_to_six` does.
+pub fn eleven_on(alloc: Global, layout: usize) -> Option<Array2<u64>> {
+    match layout {
+        0 => table_by(alloc, (2, 3), [3, 1], &[11, 12, 13, 14, 15, 16]),
+        1 => table_by(alloc, (2, 3), [1, 2], &[11, 14, 12, 15, 13, 16]),
+        2 => table_by(
+            alloc,
+            (2, 3),
+            [6, -2],
+            &[13, 9, 12, 9, 11, 9, 16, 9, 15, 9, 14],
+        ),
+        _ => table_by(alloc, (0, 3), [0, 0], &[]),
+    }
+}
 
-/// What such tables of 11 12 13 / 14 15 16 are stored as.
-pub const ELEVEN_ON: [&[u64]; 3] = [
-    &[11, 12, 13, 14, 15, 16],
-    &[11, 14, 12, 15, 13, 16],
-    &[13, 9, 12, 9, 11, 9, 16, 9, 15, 9, 14],
-];
+/// Returns the row with this number. Where there are fewer rows, it returns a row without numbers.
+pub fn row_of(rows: &[[u64; 6]], number: usize) -> &[u64] {
+    match rows.get(number) {
+        Some(row) => row.as_slice(),
+        None => &[],
+    }
+}
 
 /// Returns whether an array was made, and has this shape and these numbers row by row. This is for functions over any
 /// number of axes. It takes the array by value, so that the caller has nothing to drop.
@@ -78,20 +95,6 @@ pub fn meets<S: Data, D: Dimension, Z: Data, E: Dimension>(
     row.broadcast(table.raw_dim()).is_some()
 }
 
-/// Returns the array of this shape that is stored as these floats. Returns `None` where memory is refused, or the floats
-/// don't fit the shape.
-fn made_floats<D: Dimension, Sh: IntoStrideShape<Dim = D> + Drop>(
-    alloc: Global,
-    shape: Sh,
-    items: &[f64],
-) -> Option<Array<f64, D>> {
-    let items = Vec::from_slice(alloc, items).ok()?;
-    match Array::from_shape_vec(shape, items) {
-        Ok(array) => Some(array),
-        Err(_) => None,
-    }
-}
-
 /// Returns the table of this shape that is stored as these floats by these strides. Returns `None` where memory is
 /// refused, or the floats don't fit the shape.
 pub fn floats_by(
@@ -100,13 +103,13 @@ pub fn floats_by(
     strides: [isize; 2],
     items: &[f64],
 ) -> Option<Array2<f64>> {
-    made_floats(alloc, shape.strides(&strides), items)
-}
-
-/// Returns the table of this shape with these floats, row by row. Returns `None` where memory is refused, or there are
-/// more or fewer floats.
-pub fn floats(alloc: Global, shape: (usize, usize), items: &[f64]) -> Option<Array2<f64>> {
-    made_floats(alloc, shape, items)
+    match Vec::from_slice(alloc, items) {
+        Ok(items) => match Array2::from_shape_vec(shape.strides(&strides), items) {
+            Ok(table) => Some(table),
+            Err(_) => None,
+        },
+        Err(_) => None,
+    }
 }
 
 /// Returns the list of these floats, or `None` where memory is refused.
@@ -128,6 +131,14 @@ pub fn pair<A: Copy + Drop>(alloc: Global, one: A, other: A) -> Option<Array1<A>
 /// Returns whether a list has these floats and no others.
 pub fn lists_floats<S: Data<Elem = f64>>(list: &ArrayBase<S, Ix1>, wanted: &[f64]) -> bool {
     list.as_slice() == Some(wanted)
+}
+
+/// Returns whether a number is there and is this one.
+pub fn is_number(found: Option<f64>, wanted: f64) -> bool {
+    match found {
+        Some(number) => number == wanted,
+        None => false,
+    }
 }
 
 /// Returns whether both are there and the same float.

@@ -1,10 +1,8 @@
 //! Variances and standard deviations of lists, and of the rows and columns of a table. numpy 1.24 computed the expected
 //! values by `var` and `std`. Each call finds storage here.
 
-use crate::numeric::tables_in_three_layouts::{
-    STRIDES, float_list, floats, floats_by, lists_if_any,
-};
-use nd_array_core::{ArrayBase, Data};
+use crate::numeric::tables_in_three_layouts::{float_list, floats_by, is_number, lists_if_any};
+use nd_array_core::{Array2, ArrayBase, Data};
 use nd_numeric::{std, std_axis, var, var_axis};
 use nd_shape_and_slice::{Axis, Dimension, RemoveAxis};
 use std::alloc::Global;
@@ -30,33 +28,50 @@ const LISTS: [(&[f64], usize, Option<(f64, f64)>); 8] = [
     (&[], 0, None),
 ];
 
-/// What the table 1 2 4 / 3 6 8 is stored as, in each layout.
-const STORED: [&[f64]; 3] = [
-    &[1.0, 2.0, 4.0, 3.0, 6.0, 8.0],
-    &[1.0, 3.0, 2.0, 6.0, 4.0, 8.0],
-    &[4.0, 9.0, 2.0, 9.0, 1.0, 9.0, 8.0, 9.0, 6.0, 9.0, 3.0],
-];
+/// Returns the table 1 2 4 / 3 6 8 in row-major order for 0, in column-major order for 1, and with steps for other
+/// numbers. Returns `None` where memory is refused.
+fn table_in(alloc: Global, layout: usize) -> Option<Array2<f64>> {
+    match layout {
+        0 => floats_by(alloc, (2, 3), [3, 1], &[1.0, 2.0, 4.0, 3.0, 6.0, 8.0]),
+        1 => floats_by(alloc, (2, 3), [1, 2], &[1.0, 3.0, 2.0, 6.0, 4.0, 8.0]),
+        _ => {
+            let stored = [4.0, 9.0, 2.0, 9.0, 1.0, 9.0, 8.0, 9.0, 6.0, 9.0, 3.0];
+            floats_by(alloc, (2, 3), [6, -2], &stored)
+        }
+    }
+}
 
-/// The axis, the delta degrees of freedom, and the variances and standard deviations of the lanes of the table.
-type Lanes = (usize, usize, Option<&'static [f64]>, Option<&'static [f64]>);
+/// The axis, the delta degrees of freedom, the number of lanes of the table, or 0 where they are too short, and the
+/// variances and standard deviations of the lanes, followed by zeros.
+type Lanes = (usize, usize, usize, [f64; 3], [f64; 3]);
 
 const LANES: [Lanes; 5] = [
-    (0, 0, Some(&[1.0, 4.0, 4.0]), Some(&[1.0, 2.0, 2.0])),
+    (0, 0, 3, [1.0, 4.0, 4.0], [1.0, 2.0, 2.0]),
     (
         0,
         1,
-        Some(&[2.0, 8.0, 8.0]),
-        Some(&[1.4142135623730951, 2.8284271247461903, 2.8284271247461903]),
+        3,
+        [2.0, 8.0, 8.0],
+        [1.4142135623730951, 2.8284271247461903, 2.8284271247461903],
     ),
     (
         1,
         0,
-        Some(&[1.5555555555555554, 4.222222222222222]),
-        Some(&[1.247219128924647, 2.0548046676563256]),
+        2,
+        [1.5555555555555554, 4.222222222222222, 0.0],
+        [1.247219128924647, 2.0548046676563256, 0.0],
     ),
-    (0, 2, None, None),
-    (1, 3, None, None),
+    (0, 2, 0, [0.0; 3], [0.0; 3]),
+    (1, 3, 0, [0.0; 3], [0.0; 3]),
 ];
+
+/// Returns the first so many of three numbers, or `None` for 0.
+fn first_of(numbers: &[f64; 3], count: usize) -> Option<&[f64]> {
+    if count == 0 {
+        return None;
+    }
+    numbers.get(..count)
+}
 
 /// Returns the variance and the standard deviation of all elements. This is for all storages and numbers of axes, since a
 /// call at known types takes longer to prove.
@@ -79,6 +94,7 @@ fn list_is_right(alloc: Global, items: &[f64], ddof: usize, wanted: Option<(f64,
     }
 }
 
+/// Returns whether all lists have their variances and standard deviations.
 fn lists(alloc: Global) -> bool {
     for (items, ddof, wanted) in &LISTS {
         if !list_is_right(alloc, *items, *ddof, *wanted) {
@@ -97,15 +113,14 @@ fn lanes_are_right<S: Data<Elem = f64>, D: RemoveAxis>(
     if wanted.0 >= table.ndim() {
         return false;
     }
-    lists_if_any(var_axis(alloc, table, Axis(wanted.0), wanted.1), wanted.2)
-        && lists_if_any(std_axis(alloc, table, Axis(wanted.0), wanted.1), wanted.3)
+    let variances = first_of(&wanted.3, wanted.2);
+    let roots = first_of(&wanted.4, wanted.2);
+    lists_if_any(var_axis(alloc, table, Axis(wanted.0), wanted.1), variances)
+        && lists_if_any(std_axis(alloc, table, Axis(wanted.0), wanted.1), roots)
 }
 
 /// Returns whether all lanes of the table are right.
-fn table_is_right<S: Data<Elem = f64>, D: RemoveAxis>(
-    alloc: Global,
-    table: &ArrayBase<S, D>,
-) -> bool {
+fn table_is_right(alloc: Global, table: &Array2<f64>) -> bool {
     for wanted in &LANES {
         if !lanes_are_right(alloc, table, wanted) {
             return false;
@@ -114,9 +129,10 @@ fn table_is_right<S: Data<Elem = f64>, D: RemoveAxis>(
     true
 }
 
+/// Returns whether the lanes of the table are right in each layout.
 fn lanes(alloc: Global) -> bool {
-    for k in 0..3usize {
-        let right = match floats_by(alloc, (2, 3), STRIDES[k], STORED[k]) {
+    for layout in 0..3usize {
+        let right = match table_in(alloc, layout) {
             Some(table) => table_is_right(alloc, &table),
             None => false,
         };
@@ -127,19 +143,31 @@ fn lanes(alloc: Global) -> bool {
     true
 }
 
+/// Returns the number of a table at a row and a column, if it is there.
+fn number_at(table: &Array2<f64>, row: usize, column: usize) -> Option<f64> {
+    table.get([row, column]).copied()
+}
+
+/// Returns whether a number is there and is a NaN.
+fn is_nan(found: Option<f64>) -> bool {
+    match found {
+        Some(number) => number.is_nan(),
+        None => false,
+    }
+}
+
+/// Returns whether columns are standardised, and one whose numbers are all equal comes to be NaNs.
 fn standardised(alloc: Global) -> bool {
-    let Some(made) = floats(alloc, (2, 3), &[1.0, 2.0, 4.0, 3.0, 6.0, 4.0]) else {
+    let Some(made) = floats_by(alloc, (2, 3), [3, 1], &[1.0, 2.0, 4.0, 3.0, 6.0, 4.0]) else {
         return false;
     };
     let mut table = made;
     if standardise_columns(alloc, &mut table).is_err() {
         return false;
     }
-    let same = match table.get([0, 2]) {
-        Some(x) => x.is_nan(),
-        None => false,
-    };
-    same && table.get([0, 0]).copied() == Some(-1.0) && table.get([1, 1]).copied() == Some(1.0)
+    is_nan(number_at(&table, 0, 2))
+        && is_number(number_at(&table, 0, 0), -1.0)
+        && is_number(number_at(&table, 1, 1), 1.0)
 }
 
 #[test]

@@ -1,4 +1,4 @@
-use Rattle.std.proofs.Common.{◌≡◌, ◌-◌, ◌^◌, false, length, vec_len}
+use Rattle.std.proofs.Common.{◌≡◌, ◌-◌, ◌^◌, false, vec_len}
 use Rattle.std.specs.Io.KnownBytes.{Keeps}
 use Rattle.nd_text.specs.WatchedReadersAndWriters.{watched_inner, watched_failed, watched_retried}
 use Rattle.nd_npy.specs.StreamReadsAndWrites.{bytes_ahead}
@@ -8,7 +8,6 @@ use Rattle.nd_npy.proofs.elements_piece_by_piece.read_front.Given as goal
 abbrev pub invariant-loop-input : goal.invariant-loop-input
 invariant-loop-input g l = record {
   ahead : Keeps (g.R.Read.remaining (watched_inner l.fn.input)) (bytes_ahead g.R.Read.remaining l.front.items l.input);
-  piece : length l.piece ≡ length l.fn.piece;
   failed : watched_failed l.input ≡ false;
   stops : watched_retried l.input ≡ watched_retried l.fn.input;
 }

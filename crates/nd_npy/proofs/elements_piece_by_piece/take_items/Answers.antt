@@ -23,15 +23,15 @@ drop_front-requires g c =
     let within = taken_fits (g.A.NpyItem.value_of c.args.order) c.args.size c.len.result (c.args.count - c.len-2.result) c.min-wanted.result c.min-wanted.ensures in
     omega (arith, within, c.len.ensures)
 
-pub returns : goal.returns
-returns g c =
+pub returns-in-Ok : goal.returns-in-Ok
+returns-in-Ok g c =
     let value = g.A.NpyItem.value_of c.args.order in
     let size = c.args.size in
     let count = c.args.count in
     let bytes = c.args.pending.now.items in
     let old = c.args.values.now in
     let k = c.min-wanted.result in
-    let room = c.in_ok-reserve.ensures in
+    let room = c.in-Ok.ensures in
     let added = c.push_values.ensures in
     let least : k ≡ min (length bytes / size) (count - vec_len old) =
     c.min-wanted.ensures

@@ -1,4 +1,4 @@
-use Rattle.std.proofs.Common.{◌≡◌, ◌≤◌, ◌+◌, ◌-◌, ◌*◌, ◌^◌, false, length, vec_len}
+use Rattle.std.proofs.Common.{◌≡◌, ◌≤◌, ◌+◌, ◌-◌, ◌*◌, ◌^◌, false, vec_len}
 use Rattle.nd_text.specs.WatchedReadersAndWriters.{watched_failed, watched_retried}
 use Rattle.nd_npy.specs.StreamReadsAndWrites.{bytes_ahead}
 use Rattle.nd_npy.proofs.ItemsInPieces.{StillAhead}
@@ -9,7 +9,6 @@ abbrev pub invariant-loop-input : goal.invariant-loop-input
 invariant-loop-input g l = record {
   ahead : StillAhead (g.A.NpyItem.value_of l.order) l.size l.count (bytes_ahead g.R.Read.remaining l.fn.pending.items l.fn.input) l.values.items (vec_len l.values) (bytes_ahead g.R.Read.remaining l.pending.items l.input);
   few : vec_len l.values ≤ l.count;
-  piece : length l.piece ≡ length l.fn.piece;
   failed : watched_failed l.input ≡ false;
   stops : watched_retried l.input ≡ watched_retried l.fn.input;
 }

@@ -14,8 +14,8 @@ viewed-requires-clause-checked g c =
     let header = c.args.header.now in
     subst HasCheckedSize (sym c.as_slice.ensures.value) (checked_is (kind_size header.item_type.kind) header.shape.items (kind_some header.item_type.kind) c.requires.size_allowed)
 
-pub returns-clause-read : goal.returns-clause-read
-returns-clause-read g c =
+pub returns-in-Ok-clause-read : goal.returns-in-Ok-clause-read
+returns-in-Ok-clause-read g c =
     let header = c.args.header.now in
     let bytes = c.args.bytes.now in
     let own = c.in-Ok.ensures in

@@ -1,5 +1,4 @@
-use Rattle.nd_text.proofs.PrintingInTurn.{puts_then}
 use Rattle.nd_npy_run.proofs.fault_messages.put_no_text.Goals as goal
 
 pub returns : goal.returns
-returns g c = rw (← c.code.ensures) (puts_then c.put.ensures (puts_then c.put-2.ensures c.put-3.ensures))
+returns g c = rw (← c.code.ensures) c.put_between.ensures

@@ -1,5 +1,6 @@
-use Rattle.nd_text.proofs.PrintingInTurn.{puts_then}
+use Rattle.std.specs.Prelude.{codes}
+use Rattle.nd_npy_run.proofs.TextsAroundNumbers.{counted_then}
 use Rattle.nd_npy_run.proofs.fault_messages.put_refusal.Goals as goal
 
 pub returns : goal.returns
-returns g c = rw (← c.cause_told.ensures, ← c.as_bytes.ensures.value) (puts_then c.put.ensures (puts_then c.put_count.ensures (puts_then c.put-2.ensures c.put-3.ensures)))
+returns g c = rw (← c.cause_told.ensures, ← c.as_bytes.ensures.value) (counted_then (codes "step ") _ _ c.put_counted.ensures c.put.ensures)

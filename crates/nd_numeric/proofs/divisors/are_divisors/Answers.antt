@@ -1,10 +1,15 @@
-use Rattle.std.proofs.Common.{◌∙◌, sym}
+use Rattle.std.proofs.Common.{◌∙◌, sym, true}
+use Rattle.nd_array_core.specs.ConcatenationAndSplit.{row_major_elements}
 use Rattle.nd_array_core.specs.ArrayMeaning.{meaning_of}
-use Rattle.nd_numeric.proofs.AllElementsPass.{each_element_passes, all_elements_pass}
+use Rattle.nd_numeric.proofs.AllElementsPass.{each_element_passes, all_elements_pass, folded}
 use Rattle.nd_numeric.proofs.divisors.are_divisors.Goals as goal
 
-pub returns-clause-each : goal.returns-clause-each
-returns-clause-each g c = λ yes. each_element_passes g.A.Arithmetic.is_divisor (meaning_of c.args.array.now) c.elements_by_rank.ensures.count c.elements_by_rank.ensures.each c.nothing_outside.ensures (sym c.all_are_divisors.ensures ∙ yes)
-
-pub returns-clause-all : goal.returns-clause-all
-returns-clause-all g c = λ each. c.all_are_divisors.ensures ∙ all_elements_pass g.A.Arithmetic.is_divisor (meaning_of c.args.array.now) c.elements_by_rank.ensures.count c.elements_by_rank.ensures.each c.nothing_outside.ensures each
+pub returns : goal.returns
+returns g c =
+    let test = g.A.Arithmetic.is_divisor in
+    let m = meaning_of c.args.array.now in
+    let law = c.elements_by_rank.ensures in
+    let tells = c.fold_in_any_order.ensures ∙ folded test true (row_major_elements m) in record {
+      each = λ yes. each_element_passes test m law.count law.each c.nothing_outside.ensures (sym tells ∙ yes);
+      all = λ each. tells ∙ all_elements_pass test m law.count law.each c.nothing_outside.ensures each;
+    }

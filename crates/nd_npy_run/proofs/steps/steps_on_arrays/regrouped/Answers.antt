@@ -6,7 +6,7 @@ use Rattle.nd_array_core.specs.reshape.ServingStrides.{regrouped_meaning}
 use Rattle.nd_steps.proofs.StepEquations.{same_meaning}
 use Rattle.nd_npy_run.specs.ViewSelectAndReshapeSteps.{Regrouped}
 use Rattle.nd_npy_run.proofs.OutOfMemoryInReshape.{copies_some}
-use Rattle.nd_npy_run.proofs.SingleStepResults.{step_ok, step_made, lengths_fit}
+use Rattle.nd_npy_run.proofs.SingleStepResults.{step_err, step_ok, step_made, lengths_fit}
 use Rattle.nd_npy_run.proofs.steps.steps_on_arrays.regrouped.Goals as goal
 
 pub returns-in-Ok-into_shape_clone : goal.returns-in-Ok-into_shape_clone
@@ -26,3 +26,6 @@ returns-in-Err-into_shape_clone g c =
     let to = c.args.lengths.now in
     let refused = subst (λ (ms : List ℕ). IsReshapeRefused RowMajor m.shape (layout_strides c.args.array) ms c.in-Err-into_shape_clone.field-0) c.in-Ok.ensures.lengths c.in-Err-into_shape_clone.ensures.refused in
     step_made (Regrouped to) m c.in-Ok.ensures.refused (copies_some RowMajor m.shape (layout_strides c.args.array) to c.in-Err-into_shape_clone.field-0 refused (lengths_fit to m.shape c.in-Ok.ensures.refused))
+
+pub returns-in-Err : goal.returns-in-Err
+returns-in-Err g c = step_err (Regrouped c.args.lengths.now) (meaning_of c.args.array) c.args.number c.in-Err.cause c.in-Err.ensures.refused
