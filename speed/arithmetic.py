@@ -19,6 +19,10 @@ NAME = re.compile(r"`(.*)` of `(\w+)`(?:, axis (\d))?: (.*), (\d+)")
 CALLS = {
     "add": "a + b",
     "mul_scalar": "a * x",
+    "zip_map": "a + b",
+    "zip_map_with_two": "a + b + b",
+    "zip_fold": "numpy.einsum('ij,ij->', a, b)",
+    "zip_for_each": "numpy.einsum('ij,ij->', a, b)",
     "a += &b": "numpy.add(a, b, out=a)",
     "a *= x": "numpy.multiply(a, x, out=a)",
     "scaled_add": "numpy.add(a, b * x, out=a)",

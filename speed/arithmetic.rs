@@ -10,6 +10,7 @@ use std::hint::black_box;
 type New<A> = unsafe extern "C" fn(*const A, usize, *const A, usize, *const usize, usize, usize, usize, A, usize, usize) -> u64;
 type Changed<A> = unsafe extern "C" fn(*mut A, usize, *const A, usize, *const usize, usize, usize, usize, A, usize, usize) -> u64;
 type OfAll<A> = unsafe extern "C" fn(*const A, usize, *const usize, usize, usize, usize, usize) -> u64;
+type OfTwo<A> = unsafe extern "C" fn(*const A, usize, *const A, usize, *const usize, usize, usize, usize, usize, usize) -> u64;
 type OfLanes<A> = unsafe extern "C" fn(*const A, usize, *const usize, usize, usize, usize, usize, usize) -> u64;
 
 #[rustfmt::skip]
@@ -23,6 +24,12 @@ unsafe extern "C" {
     fn nd_speed_number(items: *const i64, count: usize, lengths: *const usize, ndim: usize, order: usize, call: usize, calls: usize) -> u64;
     fn nd_speed_number_floats(items: *const f64, count: usize, lengths: *const usize, ndim: usize, order: usize, call: usize, calls: usize) -> u64;
     fn nd_speed_number_bytes(items: *const u8, count: usize, lengths: *const usize, ndim: usize, order: usize, call: usize, calls: usize) -> u64;
+    fn nd_speed_zip_new(left: *const i64, count: usize, right: *const i64, others: usize, lengths: *const usize, ndim: usize, left_order: usize, right_order: usize, call: usize, calls: usize) -> u64;
+    fn nd_speed_zip_total(left: *const i64, count: usize, right: *const i64, others: usize, lengths: *const usize, ndim: usize, left_order: usize, right_order: usize, call: usize, calls: usize) -> u64;
+    fn nd_speed_zip_new_floats(left: *const f64, count: usize, right: *const f64, others: usize, lengths: *const usize, ndim: usize, left_order: usize, right_order: usize, call: usize, calls: usize) -> u64;
+    fn nd_speed_zip_total_floats(left: *const f64, count: usize, right: *const f64, others: usize, lengths: *const usize, ndim: usize, left_order: usize, right_order: usize, call: usize, calls: usize) -> u64;
+    fn nd_speed_zip_new_bytes(left: *const u8, count: usize, right: *const u8, others: usize, lengths: *const usize, ndim: usize, left_order: usize, right_order: usize, call: usize, calls: usize) -> u64;
+    fn nd_speed_zip_total_bytes(left: *const u8, count: usize, right: *const u8, others: usize, lengths: *const usize, ndim: usize, left_order: usize, right_order: usize, call: usize, calls: usize) -> u64;
     fn nd_speed_lanes(items: *const i64, count: usize, lengths: *const usize, ndim: usize, order: usize, axis: usize, call: usize, calls: usize) -> u64;
     fn nd_speed_lanes_floats(items: *const f64, count: usize, lengths: *const usize, ndim: usize, order: usize, axis: usize, call: usize, calls: usize) -> u64;
 }
@@ -32,6 +39,8 @@ struct Kind<A> {
     new: New<A>,
     changed: Changed<A>,
     of_all: OfAll<A>,
+    zip_new: OfTwo<A>,
+    zip_total: OfTwo<A>,
     of_lanes: Option<OfLanes<A>>,
 }
 
@@ -47,6 +56,8 @@ const PAIRS: [(usize, usize); 4] = [(0, 0), (1, 1), (0, 1), (2, 2)];
 const NEW: [&str; 2] = ["add", "mul_scalar"];
 const CHANGED: [&str; 3] = ["a += &b", "a *= x", "scaled_add"];
 const OF_ALL: [&str; 5] = ["sum", "product", "min", "max", "argmin"];
+const ZIP_NEW: [&str; 2] = ["zip_map", "zip_map_with_two"];
+const ZIP_TOTAL: [&str; 2] = ["zip_fold", "zip_for_each"];
 const OF_LANES: [&str; 2] = ["sum_axis", "mean_axis"];
 
 /// How many times a number of calls is timed.
@@ -95,6 +106,26 @@ fn elementwise<A: Number>(kind: &Kind<A>, side: usize, left: usize, right: usize
     }
 }
 
+fn zips<A: Number>(kind: &Kind<A>, side: usize, left: usize, right: usize) {
+    let (items, others) = (A::list(side * side), A::list(side * side));
+    let (lengths, calls) = black_box(([side, side], calls_of(side)));
+    let (to, from) = black_box((Part::of(left, side), Part::of(right, side)));
+    let (place, other, count) = (items.as_ptr(), others.as_ptr(), items.len());
+    let named = |name: &str| format!("`{name}` of `{}`: {}, {side}", A::NAME, name_of_orders(left, right));
+    for (call, name) in ZIP_NEW.iter().enumerate() {
+        let mut loops = again(|| plain::new(black_box(&items), black_box(&others), to, from, A::ONE, call + 2));
+        row_of(&named(name), REPEATS, calls, &mut loops, &mut |calls| unsafe {
+            (kind.zip_new)(place, count, other, count, lengths.as_ptr(), 2, left, right, call, calls)
+        });
+    }
+    for (call, name) in ZIP_TOTAL.iter().enumerate() {
+        let mut loops = again(|| plain::products(black_box(&items), black_box(&others), to, from, call == 0));
+        row_of(&named(name), REPEATS, calls, &mut loops, &mut |calls| unsafe {
+            (kind.zip_total)(place, count, other, count, lengths.as_ptr(), 2, left, right, call, calls)
+        });
+    }
+}
+
 fn of_all<A: Number>(kind: &Kind<A>, side: usize, order: usize) {
     let items = A::list(side * side);
     let (lengths, part, calls) = black_box(([side, side], Part::of(order, side), calls_of(side)));
@@ -129,6 +160,7 @@ fn rows_of<A: Number>(kind: &Kind<A>) {
     for side in SIDES {
         for (left, right) in PAIRS {
             elementwise(kind, side, left, right);
+            zips(kind, side, left, right);
         }
         for order in 0..ORDERS.len() {
             of_all(kind, side, order);
@@ -140,7 +172,7 @@ fn rows_of<A: Number>(kind: &Kind<A>) {
 }
 
 pub fn rows() {
-    rows_of(&Kind { new: nd_speed_new, changed: nd_speed_changed, of_all: nd_speed_number, of_lanes: Some(nd_speed_lanes) });
-    rows_of(&Kind { new: nd_speed_new_floats, changed: nd_speed_changed_floats, of_all: nd_speed_number_floats, of_lanes: Some(nd_speed_lanes_floats) });
-    rows_of(&Kind { new: nd_speed_new_bytes, changed: nd_speed_changed_bytes, of_all: nd_speed_number_bytes, of_lanes: None });
+    rows_of(&Kind { new: nd_speed_new, changed: nd_speed_changed, of_all: nd_speed_number, zip_new: nd_speed_zip_new, zip_total: nd_speed_zip_total, of_lanes: Some(nd_speed_lanes) });
+    rows_of(&Kind { new: nd_speed_new_floats, changed: nd_speed_changed_floats, of_all: nd_speed_number_floats, zip_new: nd_speed_zip_new_floats, zip_total: nd_speed_zip_total_floats, of_lanes: Some(nd_speed_lanes_floats) });
+    rows_of(&Kind { new: nd_speed_new_bytes, changed: nd_speed_changed_bytes, of_all: nd_speed_number_bytes, zip_new: nd_speed_zip_new_bytes, zip_total: nd_speed_zip_total_bytes, of_lanes: None });
 }

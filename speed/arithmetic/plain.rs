@@ -200,9 +200,33 @@ fn mapped<A: Number>(items: &[A], part: Part, make: impl Fn(A) -> A) -> Vec<A> {
     made
 }
 
-/// A new list: the sum of both where `call` is 0, and otherwise the left one times the number.
+/// A new list: the sum of both where `call` is 0 or 2, the left one times the number where it is 1, and otherwise the sum of both and the
+/// right one again.
 pub fn new<A: Number>(items: &[A], others: &[A], to: Part, from: Part, number: A, call: usize) -> Vec<A> {
-    if call == 0 { paired(items, others, to, from, |x, y| x.plus(y)) } else { mapped(items, to, |x| x.times(number)) }
+    match call {
+        0 | 2 => paired(items, others, to, from, |x, y| x.plus(y)),
+        1 => mapped(items, to, |x| x.times(number)),
+        _ => paired(items, others, to, from, |x, y| x.plus(y).plus(y)),
+    }
+}
+
+/// The sum of the products of all pairs: in row-major order where `in_order` says so and the order matters, and otherwise along memory.
+pub fn products<A: Number>(items: &[A], others: &[A], to: Part, from: Part, in_order: bool) -> A {
+    let any_order = A::ANY_ORDER || !in_order;
+    if to.is_whole() && from.is_whole() && to.row == from.row && (any_order || to.is_by_rows()) {
+        return items.iter().zip(others).fold(A::ZERO, |total, (x, y)| total.plus(x.times(*y)));
+    }
+    let mut total = A::ZERO;
+    if any_order && to.is_by_rows() != from.is_by_rows() {
+        with_pairs(to, from, |one, other| total = total.plus(at(items, one).times(at(others, other))));
+        return total;
+    }
+    for row in 0..to.side {
+        for column in 0..to.side {
+            total = total.plus(at(items, to.at(row, column)).times(at(others, from.at(row, column))));
+        }
+    }
+    total
 }
 
 fn change_pairs<A: Number>(items: &mut [A], others: &[A], to: Part, from: Part, make: impl Fn(A, A) -> A) {

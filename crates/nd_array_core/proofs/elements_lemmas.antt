@@ -4,3 +4,4 @@ pub mod ElementsHandedToBeWritten
 pub mod LackOfMemory
 pub mod IndexedChanges
 pub mod ClosuresOnTriples
+pub mod PairedRuns

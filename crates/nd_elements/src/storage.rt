@@ -1,6 +1,6 @@
 //! The storages of arrays: an owned vector, or borrowed elements, which may be read only or read and written.
 
-ghost use Rattle.std.specs.Prelude.{◌≡◌, ◌+◌, ◌*◌, ◌<◌, ◌≤◌, ◌^◌, ⊤, ℕ, length, Bool, true, false, List, [], Option, IsSome, Some, IfOk, IfErr, OnErr, is_ok, slice_get, slice_range, refl, vec_capacity, IsTrue};
+ghost use Rattle.std.specs.Prelude.{◌≡◌, ◌+◌, ◌*◌, ◌<◌, ◌≤◌, ◌^◌, ⊤, ℕ, length, Bool, true, false, List, [], Option, IsSome, Some, IfOk, IfErr, IfSome, OnErr, is_ok, slice_get, slice_range, refl, vec_capacity, IsTrue};
 ghost use Rattle.std.specs.Borrow.{sem};
 ghost use Rattle.std.specs.List.{flat_map};
 ghost use Rattle.std.specs.Option.{is_some};
@@ -574,5 +574,19 @@ impl<'a, A> ViewRepr<'a, A> {
         ensures elements { HasItemsAt (shown_by self.entry) first count result.now }
     {
         self.region.run(first, count)
+    }
+
+    /// Returns the same elements with the same places if they are borrowed as one slice, and otherwise `None`. A loop
+    /// over the result needs no test at each element of how the elements are borrowed.
+    #[inline(always)]
+    pub fn of_one_slice(self) -> Option<ViewRepr<'a, A>>
+        ensures { IfSome result (λ slice. (place : ℕ) → shown_by slice place ≡ shown_by self.entry place) }
+    {
+        match self.region {
+            SharedRegion::Whole(slice) => Some(ViewRepr {
+                region: SharedRegion::Whole(slice),
+            }),
+            SharedRegion::Part(_) => None,
+        }
     }
 }

@@ -79,10 +79,10 @@ bytes_ahead remaining pending input = prepend_known pending (remaining (watched_
 -- Says what one read has done for this result: it has put bytes behind those that wait (true), or found the end of the
 -- input (false), and what is ahead stays; or it failed, or memory was refused, which is so only where the input has bytes
 -- left.
-abbrev pub ReadsOn : {R : Type 0} → (R → Option (List ℕ)) → Watched R → Watched R → List ℕ → List ℕ → Result Bool ReadNpyFromError → Type 0
-ReadsOn remaining old new before after (Ok true) = Keeps (bytes_ahead remaining before old) (bytes_ahead remaining after new) × (length before < length after)
-ReadsOn remaining old new before after (Ok false) = Keeps (bytes_ahead remaining before old) (bytes_ahead remaining after new) × IsAtEnd (remaining (watched_inner new)) × (after ≡ before)
-ReadsOn remaining old new before after (Err error) = FailsToRead error (IfSome (remaining (watched_inner old)) (λ xs. 0 < length xs))
+abbrev pub ReadsPiece : {R : Type 0} → (R → Option (List ℕ)) → Watched R → Watched R → List ℕ → List ℕ → Result Bool ReadNpyFromError → Type 0
+ReadsPiece remaining old new before after (Ok true) = Keeps (bytes_ahead remaining before old) (bytes_ahead remaining after new) × (length before < length after)
+ReadsPiece remaining old new before after (Ok false) = Keeps (bytes_ahead remaining before old) (bytes_ahead remaining after new) × IsAtEnd (remaining (watched_inner new)) × (after ≡ before)
+ReadsPiece remaining old new before after (Err error) = FailsToRead error (IfSome (remaining (watched_inner old)) (λ xs. 0 < length xs))
 
 -- Says that the values of some items at the front of the bytes were put after `old`, so that there are `count` values, or
 -- less than one item is left.

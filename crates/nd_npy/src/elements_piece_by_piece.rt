@@ -4,7 +4,7 @@ ghost use Rattle.std.specs.Prelude.{◌≡◌, ◌<◌, ◌≤◌, ◌+◌, ◌*
 ghost use Rattle.std.specs.Io.KnownBytes.{IsAtEnd, Keeps};
 ghost use Rattle.nd_text.specs.WatchedReadersAndWriters.{watched_inner, watched_failed};
 ghost use Rattle.nd_npy_text.specs.HeaderReading.{is_cut_off};
-ghost use Rattle.nd_npy.specs.StreamReadsAndWrites.{bytes_ahead, AnswersAsWatched, FailsToRead, ReadsOn, TakesItems, GivesValues};
+ghost use Rattle.nd_npy.specs.StreamReadsAndWrites.{bytes_ahead, AnswersAsWatched, FailsToRead, ReadsPiece, TakesItems, GivesValues};
 ghost use Rattle.nd_npy.specs.declared.errors.ReadNpyError.TheVariants.{WrongSize};
 ghost use Rattle.nd_npy.specs.declared.errors.ReadNpyFromError.TheVariants.{File};
 
@@ -28,7 +28,7 @@ pub(crate) fn read_on<R: Read>(
     pending: &mut Vec<u8>,
 ) -> Result<bool, ReadNpyFromError>
     requires fine { watched_failed input.old ≡ false }
-    ensures reads { ReadsOn R.remaining input.old input.new pending.old.items pending.new.items result }
+    ensures reads { ReadsPiece R.remaining input.old input.new pending.old.items pending.new.items result }
     ensures watch { AnswersAsWatched input.old input.new result }
 {
     match input.read(piece) {

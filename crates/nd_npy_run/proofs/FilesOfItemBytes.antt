@@ -22,7 +22,7 @@ use Rattle.nd_npy_run.specs.declared.output_or_fault.Fault.{Fault}
 use Rattle.nd_npy_run.specs.declared.output_or_fault.Fault.TheVariants as faults
 use Rattle.nd_npy_run.specs.declared.wanted_outputs.Wanted.{Wanted}
 use Rattle.nd_npy_run.specs.Reductions.{reduced_file}
-use Rattle.nd_npy_run.specs.OutputAndStatus.{ComesAfter, ComesOfArray, ComesOfSteps}
+use Rattle.nd_npy_run.specs.OutputAndStatus.{ComesOfRest, ComesOfArray, ComesOfSteps}
 use Rattle.nd_npy_run.specs.FilesAfterSteps.{wanted_text, Items, IsFile, file_text, HasItems, HasWrongSize, IsRefused, ReadsItems}
 
 -- a head has bytes
@@ -129,9 +129,9 @@ module _ (steps : List AskedNpyStep) (bytes : List ℕ) (item_type : ItemType) (
   refused_then done a v refusal few first same rest = refused_first refusal (after_all steps done m a few first ∙ ap (rest_of_steps done steps) (sym same) ∙ rest)
 
   -- what comes of the steps that follow the first `done` ones
-  pub rest_comes : (wanted : Wanted) (done : ℕ) (a v : Items) (made : Result (List ℕ) Fault) → done ≤ length steps → array_after_steps (take done steps) m ≡ Ok a → v ≡ a → ComesAfter wanted item_type (rest_of_steps done steps v) made → ComesOfSteps wanted steps bytes made
+  pub rest_comes : (wanted : Wanted) (done : ℕ) (a v : Items) (made : Result (List ℕ) Fault) → done ≤ length steps → array_after_steps (take done steps) m ≡ Ok a → v ≡ a → ComesOfRest wanted item_type (rest_of_steps done steps v) made → ComesOfSteps wanted steps bytes made
   rest_comes wanted done a v made few first same comes = by_rest (rest_of_steps done steps v) refl comes
     where
-      by_rest : (rest : Result Items Refusal) → rest_of_steps done steps v ≡ rest → ComesAfter wanted item_type rest made → ComesOfSteps wanted steps bytes made
+      by_rest : (rest : Result Items Refusal) → rest_of_steps done steps v ≡ rest → ComesOfRest wanted item_type rest made → ComesOfSteps wanted steps bytes made
       by_rest (Ok n) is comes = turned_comes wanted done a v n made few first same is comes
       by_rest (Err refusal) is comes = subst (ComesOfSteps wanted steps bytes) (sym comes) (refused_then done a v refusal few first same is)

@@ -29,9 +29,9 @@ ComesOfArray wanted item_type m (Err Memory) = Unit {0}
 ComesOfArray wanted item_type m (Err _) = ⊥
 
 -- Says that the result is what is wanted of the array after steps, or the step that was refused.
-abbrev pub ComesAfter : Wanted → ItemType → Result Items Refusal → Result (List ℕ) Fault → Type 0
-ComesAfter wanted item_type (Ok m) made = ComesOfArray wanted item_type m made
-ComesAfter wanted item_type (Err refusal) made = made ≡ Err (Refused refusal)
+abbrev pub ComesOfRest : Wanted → ItemType → Result Items Refusal → Result (List ℕ) Fault → Type 0
+ComesOfRest wanted item_type (Ok m) made = ComesOfArray wanted item_type m made
+ComesOfRest wanted item_type (Err refusal) made = made ≡ Err (Refused refusal)
 
 -- Says that the result is this text, which is then known. Memory may run out.
 abbrev pub ComesOfText : Option (List ℕ) → Result (List ℕ) Fault → Type 0

@@ -9,7 +9,7 @@ ghost use Rattle.nd_npy_text.specs.ItemTypes.{kind_size};
 ghost use Rattle.nd_npy_run.specs.ViewSelectAndReshapeSteps.{asked_npy_step, are_viewed};
 ghost use Rattle.nd_npy_run.specs.FilesAfterSteps.{HasItems, ReadsItems};
 ghost use Rattle.nd_npy_run.specs.StepListResults.{rest_of_steps};
-ghost use Rattle.nd_npy_run.specs.OutputAndStatus.{bytes_made, ComesAfter, ComesOfReader, ComesOfSteps, AreNoNpySteps, IsInputReadFor};
+ghost use Rattle.nd_npy_run.specs.OutputAndStatus.{bytes_made, ComesOfRest, ComesOfReader, ComesOfSteps, AreNoNpySteps, IsInputReadFor};
 
 use crate::reduction::ReductionError;
 use crate::steps::{
@@ -110,7 +110,7 @@ fn wanted_after<const N: usize>(
     requires size { kind_size item_type.kind ≡ N }
     requires few { done ≤ length steps.now }
     requires views { IsTrue (are_viewed (drop done (map asked_npy_step steps.now))) }
-    ensures { ComesAfter wanted item_type (rest_of_steps done (map asked_npy_step steps.now) (meaning_of view.entry)) (bytes_made result) }
+    ensures { ComesOfRest wanted item_type (rest_of_steps done (map asked_npy_step steps.now) (meaning_of view.entry)) (bytes_made result) }
 {
     let mut view = view;
     match follow_steps(&mut view, steps, done) {

@@ -31,15 +31,6 @@ header_flaw_text flaws.TooManyAxes = codes "there are more than 32 axes"
 header_flaw_text flaws.Ending = codes "the head ends with }"
 header_flaw_text flaws.Padding = codes "spaces and a line feed end the head"
 
--- Returns the words for an error of reading a head, without numbers.
-abbrev pub header_error_words : HeaderError → List ℕ
-header_error_words NoMagic = codes "this is no .npy file"
-header_error_words (UnknownVersion major minor) = codes "the version isn't known"
-header_error_words TooShort = codes "the head ends too early"
-header_error_words (BadByte byte flaw) = header_flaw_text flaw
-header_error_words TooLarge = codes "the shape is too large"
-header_error_words Memory = codes "out of memory"
-
 -- Returns the text that an error of reading a head writes.
 abbrev pub header_error_text : HeaderError → List ℕ
 header_error_text NoMagic = codes "this is no .npy file"

@@ -1,7 +1,7 @@
 //! The errors of reading a head and items.
 
 ghost use Rattle.std.specs.Prelude.{◌≡◌, Some};
-ghost use Rattle.nd_npy_text.specs.ErrorTexts.{header_flaw_text, header_error_words, header_error_text, data_error_text};
+ghost use Rattle.nd_npy_text.specs.ErrorTexts.{header_flaw_text, header_error_text, data_error_text};
 ghost use Rattle.nd_npy_text.specs.declared.errors.HeaderError.TheVariants.{Memory};
 
 use std::alloc::AllocError;
@@ -120,33 +120,20 @@ pub enum HeaderError {
     Memory,
 }
 
-impl HeaderError {
-    /// Returns what the error means, in words and without the numbers that it has.
-    fn words(self) -> &'static str
-        ensures { result.now ≡ header_error_words self }
-    {
-        match self {
-            HeaderError::NoMagic => "this is no .npy file",
-            HeaderError::UnknownVersion { .. } => "the version isn't known",
-            HeaderError::TooShort => "the head ends too early",
-            HeaderError::BadByte { flaw, .. } => flaw.text(),
-            HeaderError::TooLarge => "the shape is too large",
-            HeaderError::Memory => "out of memory",
-        }
-    }
-}
-
 /// Writes the cause, for example `byte 21: items that are text aren't supported` or `the version 4.0 isn't known`.
 impl fmt::Display for HeaderError {
     ghost output = { λ error. Some (header_error_text error) };
 
     fn fmt<W: fmt::Write>(&self, f: &mut fmt::Formatter<W>) -> fmt::Result {
         match self {
+            HeaderError::NoMagic => f.write_str("this is no .npy file"),
             HeaderError::UnknownVersion { major, minor } => {
                 write!(f, "the version {major}.{minor} isn't known")
             }
+            HeaderError::TooShort => f.write_str("the head ends too early"),
             HeaderError::BadByte { byte, flaw } => write!(f, "byte {byte}: {flaw}"),
-            _ => f.write_str(self.words()),
+            HeaderError::TooLarge => f.write_str("the shape is too large"),
+            HeaderError::Memory => f.write_str("out of memory"),
         }
     }
 }

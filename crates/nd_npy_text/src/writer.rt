@@ -65,13 +65,11 @@ pub fn put_shape(bytes: &mut Vec<u8>, shape: &[usize]) -> Result<(), AllocError>
 {
     match shape {
         [] => put(bytes, b"()"),
-        [first, others @ ..] => match put_with_number(bytes, b"(", *first) {
-            Ok(()) => match put_next_lengths(bytes, others) {
-                Ok(()) => put(bytes, shape_end(others)),
-                Err(error) => Err(error),
-            },
-            Err(error) => Err(error),
-        },
+        [first, others @ ..] => {
+            put_with_number(bytes, b"(", *first)?;
+            put_next_lengths(bytes, others)?;
+            put(bytes, shape_end(others))
+        }
     }
 }
 
@@ -103,13 +101,9 @@ fn put_dict(
         item_type.kind.code(),
         order_text(fortran_order),
     ];
-    match put_all(bytes, &front) {
-        Ok(()) => match put_shape(bytes, shape) {
-            Ok(()) => put(bytes, b", }"),
-            Err(error) => Err(error),
-        },
-        Err(error) => Err(error),
-    }
+    put_all(bytes, &front)?;
+    put_shape(bytes, shape)?;
+    put(bytes, b", }")
 }
 
 /// Returns how many decimal digits a number has.
@@ -142,10 +136,8 @@ fn pad(text: &mut Vec<u8>, room: usize) -> Result<(), AllocError>
 {
     let size = text.len() + room;
     let end = size + ALIGNMENT - (FRONT_LEN + 1 + size) % ALIGNMENT;
-    match text.resize(end, b' ') {
-        Ok(()) => put(text, b"\n"),
-        Err(error) => Err(error),
-    }
+    text.resize(end, b' ')?;
+    put(text, b"\n")
 }
 
 /// The elements begin at a multiple of this number of bytes.
@@ -166,13 +158,9 @@ fn padded_text(
     ensures short { IfOk result (λ v. length v.items < 2 ^ 16) }
 {
     let mut text = Vec::new(alloc);
-    match put_dict(&mut text, item_type, fortran_order, shape) {
-        Ok(()) => match pad(&mut text, growth_room(fortran_order, shape)) {
-            Ok(()) => Ok(text),
-            Err(error) => Err(error),
-        },
-        Err(error) => Err(error),
-    }
+    put_dict(&mut text, item_type, fortran_order, shape)?;
+    pad(&mut text, growth_room(fortran_order, shape))?;
+    Ok(text)
 }
 
 /// Returns the magic bytes, the version 1.0, the length of the text in two bytes, and the text.
@@ -194,10 +182,8 @@ fn with_front(alloc: Global, text: &[u8]) -> Result<Vec<u8>, AllocError>
         (size / 256) as u8,
     ];
     let mut bytes = Vec::new(alloc);
-    match put_all(&mut bytes, &[&front, text]) {
-        Ok(()) => Ok(bytes),
-        Err(error) => Err(error),
-    }
+    put_all(&mut bytes, &[&front, text])?;
+    Ok(bytes)
 }
 
 /// Returns the head of an array with elements of this type, in this order, and with this shape, as numpy 1.24 writes
@@ -216,8 +202,6 @@ pub fn header_bytes(
     requires axes { length shape.now ≤ 32 }
     ensures written { IfOk result (λ v. v.items ≡ npy_header_text (described item_type fortran_order shape.now)) }
 {
-    match padded_text(alloc, item_type, fortran_order, shape) {
-        Ok(text) => with_front(alloc, text.as_slice()),
-        Err(error) => Err(error),
-    }
+    let text = padded_text(alloc, item_type, fortran_order, shape)?;
+    with_front(alloc, text.as_slice())
 }

@@ -11,4 +11,3 @@ pub mod OneAxisInOrder
 pub mod OuterProducts
 pub mod LaneMeans
 pub mod LaneVariances
-pub mod ShapeWithoutAxis

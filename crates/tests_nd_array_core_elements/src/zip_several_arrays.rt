@@ -33,19 +33,29 @@ fn zips<D: Dimension, E: Dimension>(
             .wrapping_add(x.wrapping_add(y.wrapping_mul(10)))
     });
     let mut folded = 0u64;
+    let mut squares = 0u64;
     for x in wanted {
         folded = folded.wrapping_mul(100).wrapping_add(*x);
+        squares = squares.wrapping_add(x.wrapping_mul(*x));
     }
     let mut shown = 0usize;
-    array.zip_for_each(other, |_x: &u64, _y: &u64| {
+    let mut squares_shown = 0u64;
+    array.zip_for_each(other, |x: &u64, y: &u64| {
+        let sum = x.wrapping_add(y.wrapping_mul(10));
         shown = shown.wrapping_add(1);
+        squares_shown = squares_shown.wrapping_add(sum.wrapping_mul(sum));
     });
     match array.zip_map(
         alloc,
         other,
         |x: &u64, y: &u64| x.wrapping_add(y.wrapping_mul(10)),
     ) {
-        Ok(zipped) => has(alloc, &zipped, wanted) && digits == folded && shown == wanted.len(),
+        Ok(zipped) => {
+            has(alloc, &zipped, wanted)
+                && digits == folded
+                && shown == wanted.len()
+                && squares_shown == squares
+        }
         Err(_) => false,
     }
 }
@@ -136,7 +146,8 @@ fn zips_three_with_a_row(
     zips_three(alloc, one, second, third, wanted)
 }
 
-/// Returns whether two tables, and three of which two are the same, are zipped in each two layouts.
+/// Returns whether two tables, and three of which two are the same, are zipped in each two layouts, and also tables that
+/// are stored from the last element back without gaps.
 fn tables_in_each_layout(alloc: Global) -> bool {
     for (strides, items, _, _) in &LAYOUTS {
         for (others, other_items, _, _) in &LAYOUTS {
@@ -153,7 +164,17 @@ fn tables_in_each_layout(alloc: Global) -> bool {
             }
         }
     }
-    true
+    let Some(backwards) = square(alloc, &[-2, -1], &[4, 3, 2, 1]) else {
+        return false;
+    };
+    zips_tables(alloc, &backwards, &backwards, &[11, 22, 33, 44])
+        && zips_three_tables(
+            alloc,
+            &backwards,
+            &backwards,
+            &backwards,
+            &[111, 222, 333, 444],
+        )
 }
 
 #[test]

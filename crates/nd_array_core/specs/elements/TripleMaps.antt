@@ -1,5 +1,5 @@
 -- Closures that are shown three elements and answer something for them, once each, in an order that is free.
-use Rattle.std.specs.Prelude.{◌≡◌, ℕ, List, [], Option, None, Some}
+use Rattle.std.specs.Prelude.{◌≡◌, ℕ, List, [], Option, None, Some, length, slice_get}
 use Rattle.std.specs.Borrow.{Bor}
 use Rattle.std.specs.Fn.{Mut, Called}
 use Rattle.std.specs.declared.vec.Vec.{Vec}
@@ -48,6 +48,10 @@ lanes_show one two three k = triple_of (lane_shows one k) (lane_shows two k) (la
 abbrev pub ranks_show : {A B C : Type 0} → Laid A → Laid B → Laid C → ℕ → Option (A × (B × C))
 ranks_show one two three k = triple_of (rank_shows one k) (rank_shows two k) (rank_shows three k)
 
+-- The items that three lists have at a position, as a triple.
+abbrev pub items_show : {A B C : Type 0} → List A → List B → List C → ℕ → Option (A × (B × C))
+items_show xs ys zs k = triple_of (slice_get xs k) (slice_get ys k) (slice_get zs k)
+
 module _ {F A B C E : Type 0} (g : Mut F (Bor A × (Bor B × (Bor C × Unit {0}))) E) where
   -- A call for three elements, and what it answered.
   abbrev pub AnswersTriple : F → Option (A × (B × C)) → E → F → Type 0
@@ -68,6 +72,14 @@ module _ {F A B C E : Type 0} (g : Mut F (Bor A × (Bor B × (Bor C × Unit {0})
   -- Each triple was shown, once, and at each index stands the answer.
   abbrev pub HasAnswersOfTriples : Meaning A → (List ℕ → Option B) → (List ℕ → Option C) → F → (List ℕ → Option E) → Type 0
   HasAnswersOfTriples m second third f at = HasAnswersOfAll AnswersTriple (tripled_with m second third) f at
+
+  -- Those of three lists may be shown one after the other; they were, and the answers stand in a vector after what it had.
+  abbrev pub MayShowItems : List A → List B → List C → F → Type 0
+  MayShowItems xs ys zs f = TakesNumbered AnswersTriple MayBeShownTriple (items_show xs ys zs) f (length xs)
+
+  abbrev pub PushesItemwise : {Y : Type 0} → List A → List B → List C → F → Vec E Y → Vec E Y → F → Type 0
+  PushesItemwise xs ys zs first old new last =
+      AnswersAfter AnswersTriple (items_show xs ys zs) (length xs) old.items new.items first last
 
   -- Those along three lanes may be shown one after the other; they were, and the answers stand in a vector after what it had.
   abbrev pub MayShowAlong : Along A → Along B → Along C → F → Type 0

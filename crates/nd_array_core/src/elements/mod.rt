@@ -15,6 +15,7 @@ mod map_mut;
 mod mapv;
 mod mapv_inplace;
 mod move_into;
+pub(crate) mod paired_runs;
 pub mod to_owned;
 pub mod to_vec;
 mod zip_fold;

@@ -1,23 +1,26 @@
 //! New arrays of what a closure returns for the elements of three arrays.
 #![tactic(auto, unfolding(crate::specs::ArrayMeaning::meaning_of, crate::specs::ArrayMeaning::memory_layout_of))]
 
-ghost use Rattle.std.specs.Prelude.{◌≡◌, ◌+◌, ◌<◌, ◌≤◌, ℕ, [], Some, IfOk, OnErr, vec_len, vec_capacity, IsTrue};
+ghost use Rattle.std.specs.Prelude.{◌≡◌, ◌+◌, ◌<◌, ◌≤◌, ℕ, [], Some, IfOk, IfSome, OnErr, length, pos, slice_get, vec_len, vec_capacity, IsTrue};
 ghost use Rattle.nd_shape_and_slice.specs.Broadcast.{broadcasts};
 ghost use Rattle.nd_shape_and_slice.specs.ShapesAndIndexOrders.{index_at, size_of};
 ghost use Rattle.nd_layout.specs.NumberedPlacesAndWalks.{along, ranked};
 ghost use Rattle.nd_elements.specs.ElementsAtNumberedPlaces.{Holds};
 ghost use Rattle.nd_elements.specs.BorrowedAndOwnedStorages.{shown_by};
-ghost use Rattle.nd_array_core.specs.ArrayMeaning.{shape_of, meaning_of, element_at};
-ghost use Rattle.nd_array_core.specs.elements.TripleMaps.{lane_shows, rank_shows, AnswersRanked, AnswersTriplesBy, AskableOfThree, AskableOfTriples, HasAnswersOfTriples, MayShowAlong, MayShowRanked, PushesAlong, ShowsAnswersOfThree, ShowsOfThree};
+ghost use Rattle.nd_array_core.specs.ArrayMeaning.{shape_of, meaning_of, element_at, layout_strides};
+ghost use Rattle.nd_array_core.specs.reshape.ElementsAsSlice.{IsRunArray};
+ghost use Rattle.nd_array_core.specs.elements.TripleMaps.{lane_shows, rank_shows, AnswersRanked, AnswersTriplesBy, AskableOfThree, AskableOfTriples, HasAnswersOfTriples, MayShowAlong, MayShowItems, MayShowRanked, PushesAlong, PushesItemwise, ShowsAnswersOfThree, ShowsOfThree};
 
 use crate::base::array::{Array, ArrayBase};
 use crate::base::constructors::of_items;
 use crate::elements::dimensionless_views::{Along, Laid};
+use crate::elements::paired_runs::are_runs_alike;
+use crate::elements::to_owned::{of_run, run_elements};
 use crate::layout::broadcast::broadcast_to_match;
 use nd_elements::elements::to_vec::room_of;
 use nd_elements::storage::Data;
-use nd_layout::Lane;
-use nd_shape_and_slice::{Dimension, NoMemory, Order};
+use nd_layout::{Lane, reach_below};
+use nd_shape_and_slice::{Dimension, NoMemory, Order, StrideList};
 use std::alloc::Global;
 
 impl<'a, A> Along<'a, A> {
@@ -29,6 +32,34 @@ impl<'a, A> Along<'a, A> {
     {
         let region = self.elements.region;
         region.get(self.lane.place_of(nth))
+    }
+
+    /// Returns the elements of a lane of stride 1 as a slice.
+    #[inline]
+    fn run(&self) -> &'a [A]
+        requires { self.now.lane.stride ≡ pos 1 }
+        ensures count { length result.now ≡ self.now.lane.count }
+        ensures elements { (k : ℕ) → k < self.now.lane.count → slice_get result.now k ≡ lane_shows self.now k }
+    {
+        let elements = self.elements;
+        elements.run(self.lane.place, self.lane.count)
+    }
+
+    /// Returns the same elements if they are borrowed as one slice, and otherwise `None`. A loop over the result needs
+    /// no test at each element of how the elements are borrowed.
+    #[inline(always)]
+    fn of_one_slice(&self) -> Option<Along<'a, A>>
+        ensures count { IfSome result (λ slice. slice.lane.count ≡ self.now.lane.count) }
+        ensures elements { IfSome result (λ slice. (k : ℕ) → lane_shows slice k ≡ lane_shows self.now k) }
+    {
+        let elements = self.elements;
+        match elements.of_one_slice() {
+            Some(slice) => Some(Along {
+                elements: slice,
+                lane: self.lane,
+            }),
+            None => None,
+        }
     }
 }
 
@@ -48,9 +79,34 @@ impl<'a, A> Laid<'a, A> {
     }
 }
 
-/// Puts what the function returns for each three elements of three lanes after what a vector has. It returns the
-/// function, as the calls left it.
-fn answer_lane<A, B, C, E, F: FnMut(&A, &B, &C) -> E>(
+/// Calls `f` with each three elements that have the same position in `xs`, `ys` and `zs`, and pushes what it returns to
+/// `items`. Returns `f`, as the calls left it.
+#[inline(always)]
+fn answer_slices<A, B, C, E, F: FnMut(&A, &B, &C) -> E>(
+    items: &mut Vec<E>,
+    xs: &[A],
+    ys: &[B],
+    zs: &[C],
+    mut f: F,
+) -> F
+    requires two { length ys.now ≡ length xs.now }
+    requires three { length zs.now ≡ length xs.now }
+    requires room { vec_len items.old + length xs.now ≤ vec_capacity items.old }
+    requires callable { MayShowItems F.FnMut xs.now ys.now zs.now f }
+    ensures pushed { PushesItemwise F.FnMut xs.now ys.now zs.now f items.old items.new result }
+    ensures len { vec_len items.new ≡ vec_len items.old + length xs.now }
+    ensures room { vec_capacity items.new ≡ vec_capacity items.old }
+{
+    for nth in 0..xs.len() {
+        items.push_reserved(f(&xs[nth], &ys[nth], &zs[nth]));
+    }
+    f
+}
+
+/// Calls `f` with each three elements that have the same position along three lanes of any strides, and pushes what it
+/// returns to `items`. Returns `f`, as the calls left it.
+#[inline(always)]
+fn answer_by_places<A, B, C, E, F: FnMut(&A, &B, &C) -> E>(
     items: &mut Vec<E>,
     one: &Along<'_, A>,
     two: &Along<'_, B>,
@@ -74,7 +130,79 @@ fn answer_lane<A, B, C, E, F: FnMut(&A, &B, &C) -> E>(
     f
 }
 
-/// Returns what the function returns for the elements of three arrays of one shape, in row-major order.
+/// Calls `f` with each three elements that have the same position along three lanes of any strides, and pushes what it
+/// returns to `items`. If the elements of each lane are borrowed as one slice, the loop goes over the slices. Returns `f`,
+/// as the calls left it.
+#[inline(always)]
+fn answer_strided<A, B, C, E, F: FnMut(&A, &B, &C) -> E>(
+    items: &mut Vec<E>,
+    one: &Along<'_, A>,
+    two: &Along<'_, B>,
+    three: &Along<'_, C>,
+    f: F,
+) -> F
+    requires two { two.now.lane.count ≡ one.now.lane.count }
+    requires three { three.now.lane.count ≡ one.now.lane.count }
+    requires room { vec_len items.old + one.now.lane.count ≤ vec_capacity items.old }
+    requires callable { MayShowAlong F.FnMut one.now two.now three.now f }
+    ensures pushed { PushesAlong F.FnMut one.now two.now three.now f items.old items.new result }
+    ensures len { vec_len items.new ≡ vec_len items.old + one.now.lane.count }
+    ensures room { vec_capacity items.new ≡ vec_capacity items.old }
+{
+    let slices = (one.of_one_slice(), two.of_one_slice(), three.of_one_slice());
+    if let (Some(xs), Some(ys), Some(zs)) = slices {
+        return answer_by_places(items, &xs, &ys, &zs, f);
+    }
+    answer_by_places(items, one, two, three, f)
+}
+
+/// Calls `f` with each three elements that have the same position along three lanes of stride 1, and pushes what it
+/// returns to `items`. Returns `f`, as the calls left it.
+#[inline(always)]
+fn answer_contiguous<A, B, C, E, F: FnMut(&A, &B, &C) -> E>(
+    items: &mut Vec<E>,
+    one: &Along<'_, A>,
+    two: &Along<'_, B>,
+    three: &Along<'_, C>,
+    f: F,
+) -> F
+    requires steps { (one.now.lane.stride ≡ pos 1) × (two.now.lane.stride ≡ pos 1) × (three.now.lane.stride ≡ pos 1) }
+    requires two { two.now.lane.count ≡ one.now.lane.count }
+    requires three { three.now.lane.count ≡ one.now.lane.count }
+    requires room { vec_len items.old + one.now.lane.count ≤ vec_capacity items.old }
+    requires callable { MayShowAlong F.FnMut one.now two.now three.now f }
+    ensures pushed { PushesAlong F.FnMut one.now two.now three.now f items.old items.new result }
+    ensures len { vec_len items.new ≡ vec_len items.old + one.now.lane.count }
+    ensures room { vec_capacity items.new ≡ vec_capacity items.old }
+{
+    answer_slices(items, one.run(), two.run(), three.run(), f)
+}
+
+/// Calls `f` with each three elements that have the same position along three lanes, and pushes what it returns to
+/// `items`. Chooses the loop that suits the strides. Returns `f`, as the calls left it.
+fn answer_lane<A, B, C, E, F: FnMut(&A, &B, &C) -> E>(
+    items: &mut Vec<E>,
+    one: &Along<'_, A>,
+    two: &Along<'_, B>,
+    three: &Along<'_, C>,
+    f: F,
+) -> F
+    requires two { two.now.lane.count ≡ one.now.lane.count }
+    requires three { three.now.lane.count ≡ one.now.lane.count }
+    requires room { vec_len items.old + one.now.lane.count ≤ vec_capacity items.old }
+    requires callable { MayShowAlong F.FnMut one.now two.now three.now f }
+    ensures pushed { PushesAlong F.FnMut one.now two.now three.now f items.old items.new result }
+    ensures len { vec_len items.new ≡ vec_len items.old + one.now.lane.count }
+    ensures room { vec_capacity items.new ≡ vec_capacity items.old }
+{
+    if one.lane.stride == 1 && two.lane.stride == 1 && three.lane.stride == 1 {
+        return answer_contiguous(items, one, two, three, f);
+    }
+    answer_strided(items, one, two, three, f)
+}
+
+/// Calls `f` with the elements of three arrays at each index, in row-major order. All three must have the same shape.
+/// Returns `f`, as the calls left it, and `room` filled with what `f` returned.
 fn answer_three<A, B, C, E, F: FnMut(&A, &B, &C) -> E>(
     room: Vec<E>,
     one: &Laid<'_, A>,
@@ -123,8 +251,9 @@ fn laid<S: Data, D: Dimension>(array: &ArrayBase<S, D>) -> Laid<'_, S::Elem>
     }
 }
 
-/// Returns what the function returns for the elements of three arrays of one shape.
-fn zip_three<
+/// Returns an array, in row-major order, of what `f` returns for the elements of three arrays at each index. All three
+/// must have the same shape. `room` must be empty and have capacity for all results.
+fn three_in_order<
     S: Data,
     Z: Data,
     Y: Data,
@@ -151,6 +280,76 @@ fn zip_three<
     let others = laid(three);
     let (_f, items) = answer_three(room, &ours, &theirs, &others, f);
     of_items(items, one.raw_dim(), Order::RowMajor)
+}
+
+/// Returns an array, with the strides of `one`, of what `f` returns for the elements of three arrays at each index. All
+/// three must have the same shape and the same strides, and the places of the elements must be consecutive numbers, each
+/// once. `room` must be empty and have capacity for all results.
+fn three_runs<
+    S: Data,
+    Z: Data,
+    Y: Data,
+    D: Dimension,
+    E,
+    F: FnMut(&S::Elem, &Z::Elem, &Y::Elem) -> E,
+>(
+    room: Vec<E>,
+    one: &ArrayBase<S, D>,
+    two: &ArrayBase<Z, D>,
+    three: &ArrayBase<Y, D>,
+    f: F,
+) -> Array<E, D>
+    requires two { shape_of two.now ≡ shape_of one.now }
+    requires three { shape_of three.now ≡ shape_of one.now }
+    requires strides { (layout_strides two.now ≡ layout_strides one.now) × (layout_strides three.now ≡ layout_strides one.now) }
+    requires run { IsRunArray one.now }
+    requires empty { (room.items ≡ []) × (vec_len room ≡ 0) }
+    requires room { size_of (shape_of one.now) ≤ vec_capacity room }
+    requires callable { AskableOfTriples F.FnMut (meaning_of one.now) (element_at two.now) (element_at three.now) f }
+    ensures shape { shape_of result ≡ shape_of one.now }
+    ensures visits { HasAnswersOfTriples F.FnMut (meaning_of one.now) (element_at two.now) (element_at three.now) f (element_at result) }
+{
+    let mut items = room;
+    answer_slices(
+        &mut items,
+        run_elements(one),
+        run_elements(two),
+        run_elements(three),
+        f,
+    );
+    let below = reach_below(one.layout.dim.slice(), one.layout.strides.slice());
+    of_run(items, below, &one.layout)
+}
+
+/// Returns an array of what `f` returns for the elements of three arrays at each index. All three must have the same
+/// shape. `room` must be empty and have capacity for all results.
+fn zip_three<
+    S: Data,
+    Z: Data,
+    Y: Data,
+    D: Dimension,
+    E,
+    F: FnMut(&S::Elem, &Z::Elem, &Y::Elem) -> E,
+>(
+    room: Vec<E>,
+    one: &ArrayBase<S, D>,
+    two: &ArrayBase<Z, D>,
+    three: &ArrayBase<Y, D>,
+    f: F,
+) -> Array<E, D>
+    requires two { shape_of two.now ≡ shape_of one.now }
+    requires three { shape_of three.now ≡ shape_of one.now }
+    requires empty { (room.items ≡ []) × (vec_len room ≡ 0) }
+    requires room { size_of (shape_of one.now) ≤ vec_capacity room }
+    requires callable { AskableOfTriples F.FnMut (meaning_of one.now) (element_at two.now) (element_at three.now) f }
+    ensures shape { shape_of result ≡ shape_of one.now }
+    ensures visits { HasAnswersOfTriples F.FnMut (meaning_of one.now) (element_at two.now) (element_at three.now) f (element_at result) }
+{
+    if are_runs_alike(one, two) && are_runs_alike(one, three) {
+        three_runs(room, one, two, three, f)
+    } else {
+        three_in_order(room, one, two, three, f)
+    }
 }
 
 impl<S: Data, D: Dimension> ArrayBase<S, D> {

@@ -9,6 +9,7 @@ use crate::storage::Data;
 use nd_layout::{Lane, Places};
 
 /// Calls `f` with each element of `xs`, and pushes what it returns to `items`. Returns `f`, as the calls left it.
+#[inline(always)]
 pub fn answer_slice<A, B, F: FnMut(&A) -> B>(items: &mut Vec<B>, xs: &[A], mut f: F) -> F
     requires room { vec_len items.old + length xs.now ≤ vec_capacity items.old }
     requires callable { MayShowEach F.FnMut slice_get (in_turn xs.now) xs.now f }
@@ -23,6 +24,7 @@ pub fn answer_slice<A, B, F: FnMut(&A) -> B>(items: &mut Vec<B>, xs: &[A], mut f
 }
 
 /// Calls `f` with each element along `lane`, and pushes what it returns to `items`. Returns `f`, as the calls left it.
+#[inline(always)]
 fn answer_strided<S: Data, B, F: FnMut(&S::Elem) -> B>(
     items: &mut Vec<B>,
     storage: &S,
@@ -46,6 +48,7 @@ fn answer_strided<S: Data, B, F: FnMut(&S::Elem) -> B>(
 
 /// Calls `f` with each element along a `lane` of stride 1, and pushes what it returns to `items`. Returns `f`, as the
 /// calls left it.
+#[inline(always)]
 fn answer_contiguous<S: Data, B, F: FnMut(&S::Elem) -> B>(
     items: &mut Vec<B>,
     storage: &S,
@@ -66,6 +69,7 @@ fn answer_contiguous<S: Data, B, F: FnMut(&S::Elem) -> B>(
 
 /// Calls `f` with each element along a `lane` of any stride, and pushes what it returns to `items`. Returns `f`, as the
 /// calls left it.
+#[inline(always)]
 pub fn answer_lane<S: Data, B, F: FnMut(&S::Elem) -> B>(
     items: &mut Vec<B>,
     storage: &S,

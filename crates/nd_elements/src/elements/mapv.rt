@@ -13,6 +13,7 @@ use nd_shape_and_slice::NoMemory;
 
 /// Calls `f` with a clone of each element of `xs`, and pushes what it returns to `items`. Returns `f`, as the calls
 /// left it.
+#[inline(always)]
 pub fn value_slice<A: Clone, B, F: FnMut(A) -> B>(
     items: &mut Vec<B>,
     xs: &[A],
@@ -35,6 +36,7 @@ pub fn value_slice<A: Clone, B, F: FnMut(A) -> B>(
 
 /// Calls `f` with a clone of each element along `lane`, and pushes what it returns to `items`. Returns `f`, as the
 /// calls left it.
+#[inline(always)]
 fn value_strided<S: Data, B, F: FnMut(S::Elem) -> B>(
     items: &mut Vec<B>,
     storage: &S,
@@ -63,6 +65,7 @@ where
 
 /// Calls `f` with a clone of each element along a `lane` of stride 1, and pushes what it returns to `items`. Returns
 /// `f`, as the calls left it.
+#[inline(always)]
 fn value_contiguous<S: Data, B, F: FnMut(S::Elem) -> B>(
     items: &mut Vec<B>,
     storage: &S,
@@ -87,6 +90,7 @@ where
 
 /// Calls `f` with a clone of each element along a `lane` of any stride, and pushes what it returns to `items`. Returns
 /// `f`, as the calls left it.
+#[inline(always)]
 fn value_lane<S: Data, B, F: FnMut(S::Elem) -> B>(
     items: &mut Vec<B>,
     storage: &S,

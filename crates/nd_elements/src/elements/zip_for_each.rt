@@ -1,16 +1,29 @@
 //! Calling a closure with pairs of elements of two storages.
 
-ghost use Rattle.std.specs.Prelude.{◌≡◌};
+ghost use Rattle.std.specs.Prelude.{◌≡◌, length, slice_get};
 ghost use Rattle.nd_layout.specs.NumberedPlacesAndWalks.{along, ranked};
-ghost use Rattle.nd_elements.specs.ElementsAtNumberedPlaces.{Holds};
+ghost use Rattle.nd_elements.specs.ElementsAtNumberedPlaces.{Holds, in_turn};
 ghost use Rattle.nd_elements.specs.elements.PairMaps.{MayShowPairs, ShowsPairs};
 
 use crate::storage::Data;
 use nd_layout::{Lane, Places};
 
+/// Calls `f` with each pair of elements that have the same position in `xs` and `ys`. Returns `f`, as the calls left it.
+pub fn show_pairs_slice<A, B, F: FnMut(&A, &B)>(xs: &[A], ys: &[B], mut f: F) -> F
+    requires as_long { length ys.now ≡ length xs.now }
+    requires callable { MayShowPairs F.FnMut slice_get slice_get (in_turn xs.now) (in_turn ys.now) xs.now ys.now f }
+    ensures ran { ShowsPairs F.FnMut slice_get slice_get (in_turn xs.now) (in_turn ys.now) xs.now ys.now f result }
+{
+    for nth in 0..xs.len() {
+        f(&xs[nth], &ys[nth]);
+    }
+    f
+}
+
 /// Calls `f` with each pair of elements that have the same position along `lane` of `storage` and along `other_lane` of
 /// `others`. Returns `f`, as the calls left it.
-fn show_pairs_lane<S: Data, Z: Data, F: FnMut(&S::Elem, &Z::Elem)>(
+#[inline(always)]
+fn show_pairs_strided<S: Data, Z: Data, F: FnMut(&S::Elem, &Z::Elem)>(
     storage: &S,
     lane: Lane,
     others: &Z,
@@ -29,6 +42,34 @@ fn show_pairs_lane<S: Data, Z: Data, F: FnMut(&S::Elem, &Z::Elem)>(
         f(x, y);
     }
     f
+}
+
+/// Calls `f` with each pair of elements that have the same position along `lane` of `storage` and along `other_lane` of
+/// `others`. Returns `f`, as the calls left it. For two lanes of stride 1 the loop has the stride 1 as a constant, which
+/// helps the compiler.
+#[inline(always)]
+fn show_pairs_lane<S: Data, Z: Data, F: FnMut(&S::Elem, &Z::Elem)>(
+    storage: &S,
+    lane: Lane,
+    others: &Z,
+    other_lane: Lane,
+    f: F,
+) -> F
+    requires as_long { other_lane.count ≡ lane.count }
+    requires holds { Holds S.stored (along lane) storage.now }
+    requires others_hold { Holds Z.stored (along other_lane) others.now }
+    requires callable { MayShowPairs F.FnMut S.stored Z.stored (along lane) (along other_lane) storage.now others.now f }
+    ensures ran { ShowsPairs F.FnMut S.stored Z.stored (along lane) (along other_lane) storage.now others.now f result }
+{
+    if lane.stride != 1 {
+        return show_pairs_strided(storage, lane, others, other_lane, f);
+    }
+    if other_lane.stride != 1 {
+        return show_pairs_strided(storage, lane, others, other_lane, f);
+    }
+    let ours = lane.side_by_side();
+    let theirs = other_lane.side_by_side();
+    show_pairs_strided(storage, ours, others, theirs, f)
 }
 
 /// Calls `f`, in row-major order of the indexes, with the element of `storage` at the index's place under `places` and

@@ -10,6 +10,7 @@ use nd_layout::{Lane, Places};
 
 /// Calls `f` with each pair of elements that have the same position in `xs` and `ys`, and pushes what it returns to
 /// `items`. Returns `f`, as the calls left it.
+#[inline(always)]
 pub fn answer_pairs_slice<A, B, C, F: FnMut(&A, &B) -> C>(
     items: &mut Vec<C>,
     xs: &[A],
@@ -31,7 +32,8 @@ pub fn answer_pairs_slice<A, B, C, F: FnMut(&A, &B) -> C>(
 
 /// Calls `f` with each pair of elements that have the same position along `lane` of `storage` and along `other_lane` of
 /// `others`, and pushes what it returns to `items`. The lanes may have any strides. Returns `f`, as the calls left it.
-fn answer_pairs_strided<S: Data, Z: Data, C, F: FnMut(&S::Elem, &Z::Elem) -> C>(
+#[inline(always)]
+fn answer_pairs_by_places<S: Data, Z: Data, C, F: FnMut(&S::Elem, &Z::Elem) -> C>(
     items: &mut Vec<C>,
     storage: &S,
     lane: Lane,
@@ -60,8 +62,38 @@ fn answer_pairs_strided<S: Data, Z: Data, C, F: FnMut(&S::Elem, &Z::Elem) -> C>(
 }
 
 /// Calls `f` with each pair of elements that have the same position along `lane` of `storage` and along `other_lane` of
+/// `others`, and pushes what it returns to `items`. The lanes may have any strides. If each storage is one slice, the
+/// loop goes over the slices. Returns `f`, as the calls left it.
+#[inline(always)]
+fn answer_pairs_strided<S: Data, Z: Data, C, F: FnMut(&S::Elem, &Z::Elem) -> C>(
+    items: &mut Vec<C>,
+    storage: &S,
+    lane: Lane,
+    others: &Z,
+    other_lane: Lane,
+    f: F,
+) -> F
+    requires as_long { other_lane.count ≡ lane.count }
+    requires holds { Holds S.stored (along lane) storage.now }
+    requires others_hold { Holds Z.stored (along other_lane) others.now }
+    requires room { vec_len items.old + lane.count ≤ vec_capacity items.old }
+    requires callable { MayShowPairs F.FnMut S.stored Z.stored (along lane) (along other_lane) storage.now others.now f }
+    ensures pushed { PushesPairs F.FnMut S.stored Z.stored (along lane) (along other_lane) storage.now others.now f items.old items.new result }
+    ensures len { vec_len items.new ≡ vec_len items.old + lane.count }
+    ensures room { vec_capacity items.new ≡ vec_capacity items.old }
+{
+    let slice = storage.borrowed().of_one_slice();
+    let other_slice = others.borrowed().of_one_slice();
+    if let (Some(xs), Some(ys)) = (slice, other_slice) {
+        return answer_pairs_by_places(items, &xs, lane, &ys, other_lane, f);
+    }
+    answer_pairs_by_places(items, storage, lane, others, other_lane, f)
+}
+
+/// Calls `f` with each pair of elements that have the same position along `lane` of `storage` and along `other_lane` of
 /// `others`, and pushes what it returns to `items`. Both lanes must have stride 1, and are borrowed as slices. Returns
 /// `f`, as the calls left it.
+#[inline(always)]
 fn answer_pairs_contiguous<S: Data, Z: Data, C, F: FnMut(&S::Elem, &Z::Elem) -> C>(
     items: &mut Vec<C>,
     storage: &S,
@@ -90,6 +122,7 @@ fn answer_pairs_contiguous<S: Data, Z: Data, C, F: FnMut(&S::Elem, &Z::Elem) -> 
 /// Calls `f` with each pair of elements that have the same position along `lane` of `storage` and along `other_lane` of
 /// `others`, and pushes what it returns to `items`. Chooses the loop that suits the strides. Returns `f`, as the calls
 /// left it.
+#[inline(always)]
 fn answer_pairs_lane<S: Data, Z: Data, C, F: FnMut(&S::Elem, &Z::Elem) -> C>(
     items: &mut Vec<C>,
     storage: &S,

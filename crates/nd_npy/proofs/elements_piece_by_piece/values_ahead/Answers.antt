@@ -2,7 +2,7 @@ use Rattle.std.proofs.Common.{◌≡◌, ◌∙◌, ◌<◌, ◌≤◌, ◌+◌,
 use Rattle.std.specs.Prelude.{Ok, OnOk, IfSome}
 use Rattle.nd_npy.specs.declared.errors.ReadNpyError.TheVariants.{Memory}
 use Rattle.nd_npy.specs.declared.errors.ReadNpyFromError.TheVariants.{File}
-use Rattle.nd_npy.specs.StreamReadsAndWrites.{bytes_ahead, FailsToRead, ReadsOn}
+use Rattle.nd_npy.specs.StreamReadsAndWrites.{bytes_ahead, FailsToRead, ReadsPiece}
 use Rattle.nd_npy.proofs.ItemsInPieces.{StillAhead, ahead_first, ahead_read, ahead_taken, bytes_counted, values_whole, values_given, values_counted, turn_smaller}
 use Rattle.nd_npy.proofs.ArraysFromStreams.{values_fail}
 use Rattle.nd_npy.proofs.elements_piece_by_piece.values_ahead.Goals as goal
@@ -23,7 +23,7 @@ loop-input-preserved g c =
     let kept = c.loop-input.invariant in
     let took = ahead_taken value size count _ (g.R.Read.remaining c.loop-input.input.inner) _ _ _ _ _ _ c.in-Ok.ensures kept.ahead in
     let next = c.in-Ok-true.ensures in
-    let reads = subst (λ more. ReadsOn g.R.Read.remaining c.loop-input.input c.read_on.new.input c.take_items.new.pending.items c.read_on.new.pending.items (Ok more)) c.in-Ok-true.field-0-test next.reads in
+    let reads = subst (λ more. ReadsPiece g.R.Read.remaining c.loop-input.input c.read_on.new.input c.take_items.new.pending.items c.read_on.new.pending.items (Ok more)) c.in-Ok-true.field-0-test next.reads in
     record {
       ahead = ahead_read value size count _ _ _ _ _ reads.0 took;
       few = c.in-Ok.ensures.at_most_count;
@@ -36,7 +36,7 @@ loop-input-smaller g c =
     let pending = c.read_on.new.pending in
     let low : vec_len pending < 2 ^ 63 = omega (arith, pending.ok.1, pending.small) in
     let taken = c.take_items.new.pending in
-    let reads = subst (λ more. ReadsOn g.R.Read.remaining c.loop-input.input c.read_on.new.input taken.items pending.items (Ok more)) c.in-Ok-true.field-0-test c.in-Ok-true.ensures.reads in
+    let reads = subst (λ more. ReadsPiece g.R.Read.remaining c.loop-input.input c.read_on.new.input taken.items pending.items (Ok more)) c.in-Ok-true.field-0-test c.in-Ok-true.ensures.reads in
     let more : vec_len taken < vec_len pending = omega (arith, reads.1, taken.ok.0, pending.ok.0) in
     turn_smaller (g.A.NpyItem.value_of c.args.order) c.args.size c.args.count _ _ _ _ _ _ (vec_len c.loop-input.pending) (vec_len c.take_items.new.pending) (vec_len pending) c.in-Ok.ensures c.loop-input.pending.ok.0 c.take_items.new.pending.ok.0 more low c.requires.fits
 
@@ -52,7 +52,7 @@ returns-in-Ok-false-clause-read g c =
     let taken = c.len.result in
     let is_taken = c.len.ensures in
     let pending = c.read_on.new.pending in
-    let reads = subst (λ more. ReadsOn g.R.Read.remaining c.loop-input.input c.read_on.new.input c.take_items.new.pending.items pending.items (Ok more)) c.in-Ok-false.field-0-test c.in-Ok-false.ensures.reads in
+    let reads = subst (λ more. ReadsPiece g.R.Read.remaining c.loop-input.input c.read_on.new.input c.take_items.new.pending.items pending.items (Ok more)) c.in-Ok-false.field-0-test c.in-Ok-false.ensures.reads in
     let before = ahead_taken value size count whole (g.R.Read.remaining c.loop-input.input.inner) _ _ _ _ _ _ took c.loop-input.invariant.ahead in
     let after = subst (λ n. StillAhead value size count whole xs n (bytes_ahead g.R.Read.remaining pending.items c.read_on.new.input)) (sym is_taken) (ahead_read value size count whole _ _ xs _ reads.0 before) in
     let left = c.len-in-Ok-false.result in
@@ -71,7 +71,7 @@ returns-in-Ok-false-clause-count g c =
     let taken = c.len.result in
     let is_taken = c.len.ensures in
     let long = c.len-in-Ok-false.ensures ∙ c.read_on.new.pending.ok.0 in
-    let reads = subst (λ more. ReadsOn g.R.Read.remaining c.loop-input.input c.read_on.new.input c.take_items.new.pending.items c.read_on.new.pending.items (Ok more)) c.in-Ok-false.field-0-test c.in-Ok-false.ensures.reads in
+    let reads = subst (λ more. ReadsPiece g.R.Read.remaining c.loop-input.input c.read_on.new.input c.take_items.new.pending.items c.read_on.new.pending.items (Ok more)) c.in-Ok-false.field-0-test c.in-Ok-false.ensures.reads in
     let short = λ (below : taken < count). subst (λ n. n < size) (sym long) (subst (λ l. length l < size) (sym reads.2) (took.else_short (subst (λ n. n < count) is_taken below))) in
     subst (λ n. OnOk c.unless_wrong_size.result (n ≡ count)) is_taken (values_counted (g.A.NpyItem.value_of c.args.order) size count taken c.len-in-Ok-false.result (subst (λ n. n ≤ count) (sym is_taken) took.at_most_count) short _ c.unless_wrong_size.ensures.whole)
 

@@ -4,8 +4,8 @@ use Rattle.nd_npy_text.specs.HeaderWriting.{spaces}
 use Rattle.nd_npy_text.proofs.HeaderTextLength.{padded_is}
 use Rattle.nd_npy_text.proofs.writer.pad.Goals as goal
 
-pub returns-in-Ok-clause-text : goal.returns-in-Ok-clause-text
-returns-in-Ok-clause-text c =
+pub returns-clause-text : goal.returns-clause-text
+returns-clause-text c =
     let text : List ℕ = c.args.text.now.items in
     let size : ℕ = length text + c.args.room in
     let end : ℕ = size + 64 - (11 + size) % 64 in

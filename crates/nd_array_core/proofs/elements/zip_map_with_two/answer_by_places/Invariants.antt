@@ -1,7 +1,7 @@
 use Rattle.nd_elements.proofs.NamesFromOtherCrates.{◌≡◌, ◌+◌, vec_len, vec_capacity}
 use Rattle.nd_elements.specs.elements.ElementMaps.{AnswersAfter}
 use Rattle.nd_array_core.specs.elements.TripleMaps.{AnswersTriple, lanes_show}
-use Rattle.nd_array_core.proofs.elements.zip_map_with_two.answer_lane.Given as goal
+use Rattle.nd_array_core.proofs.elements.zip_map_with_two.answer_by_places.Given as goal
 
 abbrev pub invariant-loop-nth : goal.invariant-loop-nth
 invariant-loop-nth g l =

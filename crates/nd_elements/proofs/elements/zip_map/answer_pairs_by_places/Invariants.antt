@@ -1,7 +1,7 @@
 use Rattle.nd_elements.proofs.NamesFromOtherCrates.{◌≡◌, ◌+◌, vec_len, vec_capacity, along}
 use Rattle.nd_elements.specs.elements.ElementMaps.{AnswersAfter}
 use Rattle.nd_elements.specs.elements.PairMaps.{AnswersPair, pairs_at}
-use Rattle.nd_elements.proofs.elements.zip_map.answer_pairs_strided.Given as goal
+use Rattle.nd_elements.proofs.elements.zip_map.answer_pairs_by_places.Given as goal
 
 abbrev pub invariant-loop-nth : goal.invariant-loop-nth
 invariant-loop-nth g l =

@@ -3,7 +3,7 @@ use Rattle.nd_array_core.specs.ArrayMeaning.{meaning_of, shape_of, element_at}
 use Rattle.nd_array_core.specs.elements.TripleMaps.{AnswersTriple, MayBeShownTriple, ranks_show, tripled_with}
 use Rattle.nd_array_core.proofs.along_lemmas.HandedLanes.{found_there}
 use Rattle.nd_array_core.proofs.elements_lemmas.ClosuresOnTriples.{triple_alike}
-use Rattle.nd_array_core.proofs.elements.zip_map_with_two.zip_three.Goals as goal
+use Rattle.nd_array_core.proofs.elements.zip_map_with_two.three_in_order.Goals as goal
 
 pub answer_three-f-requires-clause-room : goal.answer_three-f-requires-clause-room
 answer_three-f-requires-clause-room g c = subst (λ ns. size_of ns ≤ vec_capacity c.args.room) (sym c.laid-ours.ensures.lengths) c.requires.room

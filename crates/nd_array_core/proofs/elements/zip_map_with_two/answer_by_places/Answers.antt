@@ -3,7 +3,7 @@ use Rattle.nd_elements.specs.elements.ElementMaps.{AnswersAfter}
 use Rattle.nd_elements.proofs.elements_lemmas.MappedElements.{after_none, after_ran, after_more}
 use Rattle.nd_array_core.specs.elements.TripleMaps.{AnswersTriple, lanes_show}
 use Rattle.nd_array_core.proofs.elements_lemmas.ClosuresOnTriples.{triple_is}
-use Rattle.nd_array_core.proofs.elements.zip_map_with_two.answer_lane.Goals as goal
+use Rattle.nd_array_core.proofs.elements.zip_map_with_two.answer_by_places.Goals as goal
 
 pub f-requires : goal.f-requires
 f-requires g c =

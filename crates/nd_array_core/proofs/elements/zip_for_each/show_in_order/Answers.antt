@@ -1,7 +1,7 @@
 use Rattle.nd_elements.proofs.PlacesAsCallsGetThem.{handed_alike, handed_holds}
 use Rattle.nd_elements.proofs.elements_lemmas.PairedLayouts.{layouts_askable, layouts_visited}
 use Rattle.nd_array_core.specs.ArrayMeaning.{meaning_of}
-use Rattle.nd_array_core.proofs.elements.zip_for_each.show_alike.Goals as goal
+use Rattle.nd_array_core.proofs.elements.zip_for_each.show_in_order.Goals as goal
 
 pub show_pairs-requires-clause-alike : goal.show_pairs-requires-clause-alike
 unfolding meaning_of
