@@ -1,5 +1,5 @@
-//! Arithmetic of numbers over square arrays of two axes, in row-major (C) order, in column-major (F) order and in every second row
-//! and column of a larger array from the last ones back, beside the best of the plain loops in arithmetic/plain.rs.
+//! Arithmetic of numbers, and closures over two and three arrays, on square arrays of two axes in row-major (C) order, in column-major (F)
+//! order and in every second row and column of a larger array from the last ones back, beside the best of the loops in arithmetic/plain.rs.
 
 mod plain;
 
