@@ -68,7 +68,7 @@ pub use Rattle.nd_layout.proofs.order_lemmas.RunAsOneLane.{from_low, is_number, 
 pub use Rattle.nd_layout.proofs.reshape_lemmas.AxesFromFastest.{displacement_of-ordered, in_box-ordered, rank_in-below, rank_in-ordered, size_of-ordered}
 pub use Rattle.nd_layout.proofs.PermutedAxes.{axis_below, in_box-unpermuted, length-permuted, length-unpermuted, nonzero-cons, permuted-unpermuted, unpermuted-permuted}
 pub use Rattle.nd_layout.proofs.NthElementInColumnMajor.{column_rank-column_index, in_box-column_index}
-pub use Rattle.nd_layout.proofs.AxisRemovedOrInserted.{in_box-inserted, size_of-removed}
+pub use Rattle.nd_layout.proofs.AxisRemovedOrInserted.{HasCheckedSize-removed, in_box-inserted, size_of-removed}
 pub use Rattle.nd_layout.proofs.reshape_lemmas.RunFromSpan.{above_low, above_low-is, above_low-lt, each_above_low}
 pub use Rattle.nd_layout.proofs.reshape_lemmas.RunBySpanAndStrides.{run_span, run_strides}
 pub use Rattle.nd_layout.proofs.SizesOfChangedAxes.{HasCheckedSize-set, nonzero_product-set, size-le-product, size_of-set, zero_factor}

@@ -1,6 +1,5 @@
 pub mod ChunksBegin
 pub mod IndexedElements
-pub mod LaneCountChecked
 pub mod LaneElementsTaken
 pub mod ListEndsTaken
 pub mod EqualPartsAlongAxis

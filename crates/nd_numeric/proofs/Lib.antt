@@ -2,7 +2,6 @@ pub mod AllElementsPass
 pub mod BestInAnyOrder
 pub mod FoldKeepingTheBest
 pub mod FoldOfSelfPairs
-pub mod ElementwiseOnReversedAxes
 pub mod LaneTotalsByCoordinates
 pub mod BestOfLanes
 pub mod FirstAxisBroadcast

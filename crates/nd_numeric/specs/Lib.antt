@@ -1,6 +1,5 @@
 pub use Rattle.nd_numbers.specs.Quotients
 pub use Rattle.nd_array_core.specs.arithmetic.ElementwiseArithmetic
-pub mod EqualShapeArithmetic
 pub mod LeastAndGreatest
 pub mod ExactSums
 pub mod IndexOfLeastAndGreatest

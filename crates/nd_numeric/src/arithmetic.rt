@@ -5,8 +5,7 @@ ghost use Rattle.nd_shape_and_slice.specs.ShapesAndIndexOrders.{size_of};
 ghost use Rattle.nd_array_core.specs.ArrayMeaning.{shape_of, element_at};
 ghost use Rattle.nd_numeric.specs.ElementwiseArithmetic.{BecomesBoth, CanMeet, EachIsDivisor, IsOfBoth};
 
-use crate::operations_on_two_arrays::combined;
-use nd_array_core::arithmetic::combine_with;
+use nd_array_core::arithmetic::{combine_with, combined};
 use nd_array_core::{Array, ArrayBase, Data, DataMut};
 use nd_numbers::{Arithmetic, Minus, Over, Plus, PlusMultiple, Times};
 use nd_shape_and_slice::{Dimension, NoMemory};

@@ -5,26 +5,11 @@ ghost use Rattle.nd_shape_and_slice.specs.ShapesAndIndexOrders.{size_of};
 ghost use Rattle.nd_array_core.specs.ArrayMeaning.{shape_of};
 ghost use Rattle.nd_numeric.specs.ElementwiseArithmetic.{BecomesEach, IsOfEach};
 
-use nd_array_core::arithmetic::combine_with_scalar;
+use nd_array_core::arithmetic::{combine_with_scalar, combined_with_scalar};
 use nd_array_core::{Array, ArrayBase, Data, DataMut};
-use nd_numbers::{Arithmetic, Minus, Operation, Over, Plus, Times};
+use nd_numbers::{Arithmetic, Minus, Over, Plus, Times};
 use nd_shape_and_slice::{Dimension, NoMemory};
 use std::alloc::Global;
-
-/// Returns a new array of what `operation` returns for each element of `array` and `number`. Fails with `NoMemory` if
-/// the storage is refused. It goes over the elements once.
-fn combined_with_scalar<A: Drop, B: Drop, O: Operation<A, B>, S: Data<Elem = A>, D: Dimension>(
-    alloc: Global,
-    array: &ArrayBase<S, D>,
-    number: B,
-    operation: O,
-) -> Result<Array<A, D>, NoMemory>
-    ensures combined { IfOk result (IsOfEach (λ x. O.gives operation x number) array.now) }
-    ensures refused { OnErr result (0 < size_of (shape_of array.now)) }
-{
-    let made = array.map(alloc, |x| operation.apply(x, &number))?;
-    Ok(made)
-}
 
 /// Returns a new array with, at each index, the sum of the element and the number. Fails with `NoMemory` if the storage
 /// is refused. This is ndarray's `&array + number`.

@@ -14,7 +14,6 @@ mod lanes_folded_together;
 pub mod laws;
 mod least_and_greatest;
 mod least_and_greatest_of_lanes;
-mod operations_on_two_arrays;
 mod outer_product_and_trace;
 mod running_sums;
 mod sums_of_all_elements;

@@ -4,12 +4,13 @@ ghost use Rattle.std.specs.Prelude.{◌≡◌, ◌<◌, ℕ, List, IfOk, IsSome,
 ghost use Rattle.std.specs.List.{fold};
 ghost use Rattle.nd_shape_and_slice.specs.ShapesAndIndexOrders.{HasCheckedSize, in_box, size_of};
 ghost use Rattle.nd_array_core.specs.ArrayMeaning.{element_at, shape_of};
-ghost use Rattle.nd_numeric.specs.ElementwiseArithmetic.{CanMeet, IsOfBoth};
+ghost use Rattle.nd_numeric.specs.ElementwiseArithmetic.{CanMeet};
 ghost use Rattle.nd_numeric.specs.SumsProductsAndMeans.{diagonal_elements, outer_shape, HasOuterProducts, MeetInCells};
 
+use nd_array_core::arithmetic::combined;
 use nd_array_core::laws::elements_by_rank;
 use nd_array_core::{Array, Array2, ArrayBase, ArrayView, Data};
-use nd_numbers::{Arithmetic, Operation, Times};
+use nd_numbers::{Arithmetic, Times};
 use nd_shape_and_slice::{Dimension, Ix1, Ix2, NoMemory};
 use std::alloc::Global;
 
@@ -39,30 +40,6 @@ fn columns_of<'a, A, S: Data<Elem = A>, Z: Data<Elem = A>>(
     }
 }
 
-/// Returns a new array of what `operation` returns for each element of `array` and the element of `other` at the same
-/// index. `other` is broadcast to the shape of `array`, which must be possible. Fails with `NoMemory` if the storage is
-/// refused.
-fn zipped<
-    A: Drop,
-    B,
-    O: Operation<A, B>,
-    S: Data<Elem = A>,
-    D: Dimension,
-    Z: Data<Elem = B>,
-    E: Dimension,
->(
-    alloc: Global,
-    array: &ArrayBase<S, D>,
-    other: &ArrayBase<Z, E>,
-    operation: O,
-) -> Result<Array<A, D>, NoMemory>
-    requires { CanMeet array.now other.now }
-    ensures combined { IfOk result (IsOfBoth (O.gives operation) array.now other.now) }
-    ensures refused { OnErr result (0 < size_of (shape_of array.now)) }
-{
-    array.zip_map(alloc, other, |x, y| operation.apply(x, y))
-}
-
 /// Returns the outer product of two vectors: the table that has at each row and column the product of the element of
 /// `one` at the row and the element of `other` at the column. The size of the table must not overflow. Fails with
 /// `NoMemory` if storage is refused; a table without elements asks for none. With ndarray it is written with a
@@ -77,7 +54,7 @@ pub fn outer<A: Arithmetic, S: Data<Elem = A>, Z: Data<Elem = A>>(
     ensures products { IfOk result (HasOuterProducts A.times A.zero one.now other.now) }
     ensures refused { OnErr result (0 < size_of (outer_shape (shape_of one.now) (shape_of other.now))) }
 {
-    zipped(alloc, &columns_of(one, other), other, Times)
+    combined(alloc, &columns_of(one, other), other, Times)
 }
 
 /// Returns the sum of the elements of a table whose two coordinates are equal. They are added to 0 one after another,

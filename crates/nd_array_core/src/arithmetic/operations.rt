@@ -76,14 +76,16 @@ pub(crate) fn with_scalar<A: Drop, B: Drop, O: Operation<A, B>, S: DataMut<Elem 
 }
 
 /// Returns a new array of what `operation` returns for each element of `array` and the element of `other` at the same
-/// index. `other` is broadcast to the shape of `array`, which must be possible. Fails with `NoMemory` if the storage is
-/// refused. ndarray has one operator for each operation instead, such as `&array + &other`.
+/// index. `other` is broadcast to the shape of `array`, which must be possible. How the result lies in memory is
+/// unspecified. Fails with `NoMemory` if the storage is refused. It goes over the elements once. ndarray has one operator
+/// for each operation instead, such as `&array + &other`.
 pub fn combined<
-    A: Arithmetic,
-    O: Operation<A, A>,
+    A: Drop,
+    B,
+    O: Operation<A, B>,
     S: Data<Elem = A>,
     D: Dimension,
-    Z: Data<Elem = A>,
+    Z: Data<Elem = B>,
     E: Dimension,
 >(
     alloc: Global,
@@ -95,25 +97,24 @@ pub fn combined<
     ensures combined { IfOk result (IsOfBoth (O.gives operation) array.now other.now) }
     ensures refused { OnErr result (0 < size_of (shape_of array.now)) }
 {
-    let mut result = array.to_owned(alloc)?;
-    combine_with(&mut result, other, operation);
-    Ok(result)
+    let made = array.zip_map(alloc, other, |x, y| operation.apply(x, y))?;
+    Ok(made)
 }
 
-/// Returns a new array of what `operation` returns for each element of `array` and `number`. Fails with `NoMemory` if
-/// the storage is refused. ndarray has one operator for each operation instead, such as `&array + number`.
-pub fn combined_with_scalar<A: Arithmetic, O: Operation<A, A>, S: Data<Elem = A>, D: Dimension>(
+/// Returns a new array of what `operation` returns for each element of `array` and `number`. How the result lies in
+/// memory is unspecified. Fails with `NoMemory` if the storage is refused. It goes over the elements once. ndarray has one
+/// operator for each operation instead, such as `&array + number`.
+pub fn combined_with_scalar<A: Drop, B: Drop, O: Operation<A, B>, S: Data<Elem = A>, D: Dimension>(
     alloc: Global,
     array: &ArrayBase<S, D>,
-    number: A,
+    number: B,
     operation: O,
 ) -> Result<Array<A, D>, NoMemory>
     ensures combined { IfOk result (IsOfEach (λ x. O.gives operation x number) array.now) }
     ensures refused { OnErr result (0 < size_of (shape_of array.now)) }
 {
-    let mut result = array.to_owned(alloc)?;
-    combine_with_scalar(&mut result, number, operation);
-    Ok(result)
+    let made = array.map(alloc, |x| operation.apply(x, &number))?;
+    Ok(made)
 }
 
 /// Changes the sign of each element; unsigned integers wrap. It takes no memory. This is ndarray's `-array`.

@@ -61,7 +61,7 @@ pub fn is_run(lengths: &[usize], strides: &[isize]) -> bool
     requires fits { span_of lengths.now strides.now < 2 ^ 63 }
     ensures { IsTrue result ↔ ((size_of lengths.now ≡ 0) ⊎ IsRun lengths.now strides.now) }
 {
-    if is_empty_shape(lengths) {
+    if is_standard(lengths, strides) {
         return true;
     }
     match span(lengths, strides) {
