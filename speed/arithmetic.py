@@ -1,4 +1,4 @@
-"""Prints two markdown tables, of arrays of 1000 x 1000 and of 10 x 10: the microseconds of a call of arithmetic, over plain Rust's and
+"""Prints three markdown tables, of arrays of 1000 x 1000, 100 x 100 and 10 x 10: the microseconds of a call of arithmetic, over plain Rust's and
 over numpy's, from the driver given as an argument. numpy adds and multiplies floats in pairs and not in order, and its quotient of
 integers is rounded down: these are the nearest calls that it has."""
 
@@ -11,7 +11,7 @@ import timeit
 import numpy
 
 ROUNDS = 4
-SIDES = ("1000", "10")
+SIDES = ("1000", "100", "10")
 ORDERS = ("C", "F", "C and F", "every second")
 KINDS = {"i64": numpy.int64, "f64": numpy.float64, "u8": numpy.uint8}
 NAME = re.compile(r"`(.*)` of `(\w+)`(?:, axis (\d))?: (.*), (\d+)")

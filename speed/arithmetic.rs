@@ -44,7 +44,7 @@ struct Kind<A> {
     of_lanes: Option<OfLanes<A>>,
 }
 
-const SIDES: [usize; 2] = [1000, 10];
+const SIDES: [usize; 3] = [1000, 100, 10];
 
 /// The names of the orders by their numbers.
 const ORDERS: [&str; 3] = ["C", "F", "every second"];

@@ -1,4 +1,3 @@
-mod ItemBytes
 mod ItemTypesReadBack
 mod LengthListReading
 mod LengthsReadBack

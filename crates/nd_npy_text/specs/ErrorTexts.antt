@@ -4,8 +4,6 @@ use Rattle.std.specs.Fmt.{decimal}
 use Rattle.nd_npy_text.specs.declared.errors.HeaderFlaw.{HeaderFlaw}
 use Rattle.nd_npy_text.specs.declared.errors.HeaderFlaw.TheVariants as flaws
 use Rattle.nd_npy_text.specs.declared.errors.HeaderError.{HeaderError}
-use Rattle.nd_npy_text.specs.declared.errors.DataError.{DataError}
-use Rattle.nd_npy_text.specs.declared.errors.DataError.TheVariants as data_errors
 use Rattle.nd_npy_text.specs.declared.errors.HeaderError.TheVariants.{NoMagic, UnknownVersion, TooShort, BadByte, TooLarge, Memory}
 
 -- Returns the text that a flaw of a head's dict writes.
@@ -39,8 +37,3 @@ header_error_text TooShort = codes "the head ends too early"
 header_error_text (BadByte byte flaw) = codes "byte " ++ (decimal byte ++ (codes ": " ++ header_flaw_text flaw))
 header_error_text TooLarge = codes "the shape is too large"
 header_error_text Memory = codes "out of memory"
-
--- Returns the text that an error of reading items writes.
-abbrev pub data_error_text : DataError → List ℕ
-data_error_text data_errors.TooShort = codes "the items end too early"
-data_error_text data_errors.Memory = codes "out of memory"

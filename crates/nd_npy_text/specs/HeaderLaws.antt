@@ -1,6 +1,5 @@
--- Laws of heads, and of the items behind them.
-use Rattle.std.specs.Prelude.{◌≡◌, ◌+◌, ◌/◌, ◌%◌, ℕ, Bool, true, false, All, IsTrue, is_some, List, [], ◌∷◌, ◌++◌, length, Ok}
-use Rattle.std.specs.List.{flat_map}
+-- Laws of heads.
+use Rattle.std.specs.Prelude.{◌≡◌, ◌+◌, ◌/◌, ◌%◌, ℕ, Bool, true, false, IsTrue, is_some, List, [], ◌∷◌, ◌++◌, length, Ok}
 use Rattle.nd_npy_text.specs.declared.header.Version.{Version}
 use Rattle.nd_npy_text.specs.declared.header.Version.TheVariants.{One, Two, Three}
 use Rattle.nd_npy_text.specs.HeaderDescription.{Description, IsWholeHeader, is_wide, text_start}
@@ -39,10 +38,6 @@ HeadersAreAligned = (d : Description) → length (npy_header_text d) % 64 ≡ 0
 -- Where three entries of a dict are read, each of the three keys has a value.
 abbrev pub EntriesAreWhole : Type 0
 EntriesAreWhole = (bytes rest : List ℕ) (p : Parts) → entries_in bytes ≡ Ok (p, rest) → IsTrue (is_some p.item_type) × IsTrue (is_some p.fortran_order) × IsTrue (is_some p.shape_found)
-
--- Two lists of as many items, all of one size, are equal if their bytes, one item after another, are equal.
-abbrev pub ItemsAreTheirBytes : Type 0
-ItemsAreTheirBytes = (size : ℕ) (xs ys : List (List ℕ)) → All (λ x. length x ≡ size) xs → All (λ y. length y ≡ size) ys → length xs ≡ length ys → flat_map (λ x. x) xs ≡ flat_map (λ y. y) ys → xs ≡ ys
 
 -- Where the bytes aren't cut off inside the head (`is_cut_off`), what follows them changes nothing of what the head says.
 abbrev pub HeadsNeedNoMore : Type 0

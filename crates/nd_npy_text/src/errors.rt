@@ -1,7 +1,7 @@
-//! The errors of reading a head and items.
+//! The errors of reading a head.
 
 ghost use Rattle.std.specs.Prelude.{◌≡◌, Some};
-ghost use Rattle.nd_npy_text.specs.ErrorTexts.{header_flaw_text, header_error_text, data_error_text};
+ghost use Rattle.nd_npy_text.specs.ErrorTexts.{header_flaw_text, header_error_text};
 ghost use Rattle.nd_npy_text.specs.declared.errors.HeaderError.TheVariants.{Memory};
 
 use std::alloc::AllocError;
@@ -147,26 +147,3 @@ impl From<AllocError> for HeaderError {
         HeaderError::Memory
     }
 }
-
-/// Why no items can be read from bytes.
-#[derive(Clone, Copy, Debug, PartialEq, Eq)]
-pub enum DataError {
-    /// The bytes end before the items do.
-    TooShort,
-    /// Memory was refused.
-    Memory,
-}
-
-/// Writes the cause: `the items end too early` or `out of memory`.
-impl fmt::Display for DataError {
-    ghost output = { λ error. Some (data_error_text error) };
-
-    fn fmt<W: fmt::Write>(&self, f: &mut fmt::Formatter<W>) -> fmt::Result {
-        match self {
-            DataError::TooShort => f.write_str("the items end too early"),
-            DataError::Memory => f.write_str("out of memory"),
-        }
-    }
-}
-
-impl Error for DataError {}

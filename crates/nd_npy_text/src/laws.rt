@@ -1,6 +1,6 @@
 //! Laws of heads. Nothing here runs: each function's clause is a law.
 
-ghost use Rattle.nd_npy_text.specs.HeaderLaws.{HeadersReadBack, HeadersAreAligned, EntriesAreWhole, HeadsNeedNoMore, ItemsAreTheirBytes, VersionsAgree};
+ghost use Rattle.nd_npy_text.specs.HeaderLaws.{HeadersReadBack, HeadersAreAligned, EntriesAreWhole, HeadsNeedNoMore, VersionsAgree};
 
 /// A head that is written for a whole description (`IsWholeHeader`) is read as that description, whatever follows the
 /// head, and the elements begin where the head ends.
@@ -24,11 +24,6 @@ pub fn headers_are_aligned()
 /// Where three entries of a dict are read, each of the three keys has a value.
 pub fn entries_are_whole()
     ensures { EntriesAreWhole }
-{}
-
-/// Two lists of as many items, all of one size, are equal if their bytes, one item after another, are equal.
-pub fn items_are_their_bytes()
-    ensures { ItemsAreTheirBytes }
 {}
 
 /// Where bytes aren't cut off inside their head, as `is_cut_off` tells, what follows them changes nothing of what the head

@@ -12,7 +12,6 @@ mod dict;
 mod header_opening;
 mod header_tokens;
 mod item_words;
-pub mod items_after_header;
 mod length_list;
 pub mod reader;
 mod shape_lengths;
@@ -21,6 +20,6 @@ mod shape_lengths;
 pub mod laws;
 pub mod writer;
 
-pub use errors::{DataError, HeaderError, HeaderFlaw};
+pub use errors::{HeaderError, HeaderFlaw};
 pub use header::{Header, Version};
 pub use item_type::{ByteOrder, ItemType, Kind};

@@ -26,21 +26,6 @@ pub fn add<A: Arithmetic, S: Data<Elem = A>, D: Dimension, Z: Data<Elem = A>, E:
     combined(alloc, array, other, Plus)
 }
 
-/// Adds to each element of `array` the element of `other` at the same index. `other` is broadcast to the shape of
-/// `array`, which must be possible. It asks for no memory. This is ndarray's `array += &other`.
-pub fn add_assign<
-    A: Arithmetic,
-    S: DataMut<Elem = A>,
-    D: Dimension,
-    Z: Data<Elem = A>,
-    E: Dimension,
->(array: &mut ArrayBase<S, D>, other: &ArrayBase<Z, E>)
-    requires broadcasts { CanMeet array.old other.now }
-    ensures sums { BecomesBoth S.frame A.plus array.old other.now array.new }
-{
-    combine_with(array, other, Plus);
-}
-
 /// Returns a new array with, at each index, the element of `array` minus the element of `other`. `other` is broadcast
 /// to the shape of `array`, which must be possible. Fails with `NoMemory` if storage is refused. This is ndarray's
 /// `&array - &other`.
@@ -54,21 +39,6 @@ pub fn sub<A: Arithmetic, S: Data<Elem = A>, D: Dimension, Z: Data<Elem = A>, E:
     ensures refused { OnErr result (0 < size_of (shape_of array.now)) }
 {
     combined(alloc, array, other, Minus)
-}
-
-/// Subtracts from each element of `array` the element of `other` at the same index. `other` is broadcast to the shape
-/// of `array`, which must be possible. It asks for no memory. This is ndarray's `array -= &other`.
-pub fn sub_assign<
-    A: Arithmetic,
-    S: DataMut<Elem = A>,
-    D: Dimension,
-    Z: Data<Elem = A>,
-    E: Dimension,
->(array: &mut ArrayBase<S, D>, other: &ArrayBase<Z, E>)
-    requires broadcasts { CanMeet array.old other.now }
-    ensures differences { BecomesBoth S.frame A.minus array.old other.now array.new }
-{
-    combine_with(array, other, Minus);
 }
 
 /// Returns a new array with, at each index, the product of the elements of both arrays. `other` is broadcast to the
@@ -86,21 +56,6 @@ pub fn mul<A: Arithmetic, S: Data<Elem = A>, D: Dimension, Z: Data<Elem = A>, E:
     combined(alloc, array, other, Times)
 }
 
-/// Multiplies each element of `array` by the element of `other` at the same index. `other` is broadcast to the shape of
-/// `array`, which must be possible. It asks for no memory. This is ndarray's `array *= &other`.
-pub fn mul_assign<
-    A: Arithmetic,
-    S: DataMut<Elem = A>,
-    D: Dimension,
-    Z: Data<Elem = A>,
-    E: Dimension,
->(array: &mut ArrayBase<S, D>, other: &ArrayBase<Z, E>)
-    requires broadcasts { CanMeet array.old other.now }
-    ensures products { BecomesBoth S.frame A.times array.old other.now array.new }
-{
-    combine_with(array, other, Times);
-}
-
 /// Returns a new array with, at each index, the element of `array` divided by the element of `other`. `other` is
 /// broadcast to the shape of `array`, which must be possible. No divisor may be the integer 0. Fails with `NoMemory` if
 /// storage is refused. This is ndarray's `&array / &other`.
@@ -115,23 +70,6 @@ pub fn div<A: Arithmetic, S: Data<Elem = A>, D: Dimension, Z: Data<Elem = A>, E:
     ensures refused { OnErr result (0 < size_of (shape_of array.now)) }
 {
     combined(alloc, array, other, Over)
-}
-
-/// Divides each element of `array` by the element of `other` at the same index. `other` is broadcast to the shape of
-/// `array`, which must be possible. No divisor may be the integer 0. It asks for no memory. This is ndarray's `array /=
-/// &other`.
-pub fn div_assign<
-    A: Arithmetic,
-    S: DataMut<Elem = A>,
-    D: Dimension,
-    Z: Data<Elem = A>,
-    E: Dimension,
->(array: &mut ArrayBase<S, D>, other: &ArrayBase<Z, E>)
-    requires broadcasts { CanMeet array.old other.now }
-    requires divisors { EachIsDivisor A.is_divisor (element_at other.now) }
-    ensures quotients { BecomesBoth S.frame A.over array.old other.now array.new }
-{
-    combine_with(array, other, Over);
 }
 
 /// Adds to each element of `array` the factor times the element of `other` at the same index. `other` is broadcast to

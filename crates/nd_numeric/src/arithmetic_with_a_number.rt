@@ -1,12 +1,12 @@
-//! Arithmetic with an array on the left and a single number on the right.
+//! New arrays of what arithmetic gives for each element of an array and a single number on the right.
 
 ghost use Rattle.std.specs.Prelude.{◌≡◌, ◌<◌, IfOk, IsTrue, OnErr};
 ghost use Rattle.nd_shape_and_slice.specs.ShapesAndIndexOrders.{size_of};
 ghost use Rattle.nd_array_core.specs.ArrayMeaning.{shape_of};
-ghost use Rattle.nd_numeric.specs.ElementwiseArithmetic.{BecomesEach, IsOfEach};
+ghost use Rattle.nd_numeric.specs.ElementwiseArithmetic.{IsOfEach};
 
-use nd_array_core::arithmetic::{combine_with_scalar, combined_with_scalar};
-use nd_array_core::{Array, ArrayBase, Data, DataMut};
+use nd_array_core::arithmetic::combined_with_scalar;
+use nd_array_core::{Array, ArrayBase, Data};
 use nd_numbers::{Arithmetic, Minus, Over, Plus, Times};
 use nd_shape_and_slice::{Dimension, NoMemory};
 use std::alloc::Global;
@@ -24,16 +24,6 @@ pub fn add_scalar<A: Arithmetic, S: Data<Elem = A>, D: Dimension>(
     combined_with_scalar(alloc, array, number, Plus)
 }
 
-/// Adds the number to each element. It takes no memory. This is ndarray's `array += number`.
-pub fn add_assign_scalar<A: Arithmetic, S: DataMut<Elem = A>, D: Dimension>(
-    array: &mut ArrayBase<S, D>,
-    number: A,
-)
-    ensures sums { BecomesEach S.frame (λ x. A.plus x number) array.old array.new }
-{
-    combine_with_scalar(array, number, Plus);
-}
-
 /// Returns a new array with, at each index, the element minus the number. Fails with `NoMemory` if the storage is
 /// refused. This is ndarray's `&array - number`.
 pub fn sub_scalar<A: Arithmetic, S: Data<Elem = A>, D: Dimension>(
@@ -45,16 +35,6 @@ pub fn sub_scalar<A: Arithmetic, S: Data<Elem = A>, D: Dimension>(
     ensures refused { OnErr result (0 < size_of (shape_of array.now)) }
 {
     combined_with_scalar(alloc, array, number, Minus)
-}
-
-/// Subtracts the number from each element. It takes no memory. This is ndarray's `array -= number`.
-pub fn sub_assign_scalar<A: Arithmetic, S: DataMut<Elem = A>, D: Dimension>(
-    array: &mut ArrayBase<S, D>,
-    number: A,
-)
-    ensures differences { BecomesEach S.frame (λ x. A.minus x number) array.old array.new }
-{
-    combine_with_scalar(array, number, Minus);
 }
 
 /// Returns a new array with, at each index, the product of the element and the number. Fails with `NoMemory` if the
@@ -70,16 +50,6 @@ pub fn mul_scalar<A: Arithmetic, S: Data<Elem = A>, D: Dimension>(
     combined_with_scalar(alloc, array, number, Times)
 }
 
-/// Multiplies each element by the number. It takes no memory. This is ndarray's `array *= number`.
-pub fn mul_assign_scalar<A: Arithmetic, S: DataMut<Elem = A>, D: Dimension>(
-    array: &mut ArrayBase<S, D>,
-    number: A,
-)
-    ensures products { BecomesEach S.frame (λ x. A.times x number) array.old array.new }
-{
-    combine_with_scalar(array, number, Times);
-}
-
 /// Returns a new array with, at each index, the element divided by the number, which must not be the integer 0. Fails
 /// with `NoMemory` if the storage is refused. This is ndarray's `&array / number`.
 pub fn div_scalar<A: Arithmetic, S: Data<Elem = A>, D: Dimension>(
@@ -92,16 +62,4 @@ pub fn div_scalar<A: Arithmetic, S: Data<Elem = A>, D: Dimension>(
     ensures refused { OnErr result (0 < size_of (shape_of array.now)) }
 {
     combined_with_scalar(alloc, array, number, Over)
-}
-
-/// Divides each element by the number, which must not be the integer 0. It takes no memory. This is ndarray's `array /=
-/// number`.
-pub fn div_assign_scalar<A: Arithmetic, S: DataMut<Elem = A>, D: Dimension>(
-    array: &mut ArrayBase<S, D>,
-    number: A,
-)
-    requires divisor { IsTrue (A.is_divisor number) }
-    ensures quotients { BecomesEach S.frame (λ x. A.over x number) array.old array.new }
-{
-    combine_with_scalar(array, number, Over);
 }

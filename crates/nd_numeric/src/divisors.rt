@@ -30,7 +30,7 @@ fn order_is_free<A: Arithmetic>()
 {}
 
 /// Returns whether each element is allowed as a divisor: an integer if it isn't 0, and any float. It is true exactly if
-/// the array meets the condition of `div` and `div_assign` on their right side. It asks for no memory. ndarray has no
+/// the array meets the condition of `div`, `/` and `/=` on their right side. It asks for no memory. ndarray has no
 /// such call: its division panics.
 pub fn are_divisors<A: Arithmetic, S: Data<Elem = A>, D: Dimension>(array: &ArrayBase<S, D>) -> bool
     ensures each { IsTrue result → EachIsDivisor A.is_divisor (element_at array.now) }

@@ -22,13 +22,8 @@ mod types_identical_when_equal;
 mod types_with_reorderable_sums;
 mod variances;
 
-pub use arithmetic::{
-    add, add_assign, div, div_assign, mul, mul_assign, scaled_add, sub, sub_assign,
-};
-pub use arithmetic_with_a_number::{
-    add_assign_scalar, add_scalar, div_assign_scalar, div_scalar, mul_assign_scalar, mul_scalar,
-    sub_assign_scalar, sub_scalar,
-};
+pub use arithmetic::{add, div, mul, scaled_add, sub};
+pub use arithmetic_with_a_number::{add_scalar, div_scalar, mul_scalar, sub_scalar};
 pub use checked_sums::checked_sum;
 pub use divisors::are_divisors;
 pub use float_square_roots::Real;

@@ -7,7 +7,7 @@ ghost use Rattle.nd_array_core.specs.Prelude.{meaning_of, shape_of, element_at, 
 ghost use Rattle.uses_nd_iter_stacking_and_numeric.specs.ElementwiseFloatArithmetic.{HasShares};
 
 use nd_array_core::prelude::*;
-use nd_numeric::{div_scalar, mul_assign_scalar, sum};
+use nd_numeric::{div_scalar, sum};
 use std::alloc::Global;
 
 /// Returns an array of each element divided by the sum of all elements.
@@ -28,5 +28,5 @@ pub fn raise<S: DataMut<Elem = f64>, D: Dimension>(prices: &mut ArrayBase<S, D>,
     ensures shape { shape_of prices.new ≡ shape_of prices.old }
     ensures elements { IsMappedBy (λ x. mul binary64 x rate) (element_at prices.old) (element_at prices.new) }
 {
-    mul_assign_scalar(prices, rate);
+    *prices *= rate;
 }

@@ -5,7 +5,7 @@ ghost use Rattle.nd_array_core.specs.arithmetic.ElementwiseArithmetic.{CanMeet};
 use crate::numeric::tables_in_three_layouts::{float_list, gives};
 use crate::numeric::tables_with_a_row::{Tested, all_are_right};
 use nd_array_core::{Array2, ArrayBase, Data, DataMut};
-use nd_numeric::{are_divisors, div, div_assign};
+use nd_numeric::{are_divisors, div};
 use nd_shape_and_slice::{Dimension, NdIndex};
 use nd_test_arrays::{shows, table};
 use std::alloc::Global;
@@ -34,7 +34,7 @@ where
     are_divisors(row) && gives(div(alloc, table, row), shape, wanted)
 }
 
-/// Returns whether a row has no 0, and `div_assign` leaves these quotients.
+/// Returns whether a row has no 0, and `/=` leaves these quotients.
 pub(crate) fn quotients_are_left<
     S: DataMut<Elem = u64>,
     D: Dimension,
@@ -48,7 +48,7 @@ where
     if !are_divisors(row) {
         return false;
     }
-    div_assign(table, row);
+    *table /= row;
     shows(table, shape, wanted)
 }
 

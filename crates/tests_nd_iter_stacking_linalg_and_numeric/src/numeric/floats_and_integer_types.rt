@@ -5,7 +5,7 @@ use crate::numeric::tables_in_three_layouts::{
 };
 use crate::numeric::totals::totals;
 use nd_array_core::{Array1, ArrayBase, Data, DataMut};
-use nd_numeric::{Reorderable, add_scalar, mul_assign_scalar, product, sum, var};
+use nd_numeric::{Reorderable, add_scalar, product, sum, var};
 use nd_shape_and_slice::{Dimension, Ix1};
 use std::alloc::Global;
 use uses_nd_iter_stacking_and_numeric::sums_squares_and_scaled_add::total_in_order;
@@ -29,7 +29,7 @@ fn list_is_right<S: DataMut<Elem = f64>>(alloc: Global, list: &mut ArrayBase<S, 
     if !sums_are(alloc, list, &[1.0, -1.0, 4.5]) || !totals_are_right(list) {
         return false;
     }
-    mul_assign_scalar(list, 2.0);
+    *list *= 2.0;
     lists_floats(list, &[1.0, -3.0, 8.0])
 }
 

@@ -1,9 +1,7 @@
 //! What is tested with a table in three layouts, and with a table without rows, beside the row 1 2 3.
 
-use crate::numeric::arithmetic::{calls_give, calls_leave};
-use crate::numeric::arithmetic_with_a_number::{
-    calls_with_a_number_give, calls_with_a_number_leave,
-};
+use crate::numeric::arithmetic::{calls_give, scaled_sums_are_left};
+use crate::numeric::arithmetic_with_a_number::calls_with_a_number_give;
 use crate::numeric::division_and_zero_divisors::{quotients_are_left, quotients_are_right};
 use crate::numeric::operators::operators_leave;
 use crate::numeric::tables_in_three_layouts::{eleven_on, meets, one_to_six, row_of};
@@ -16,9 +14,8 @@ use std::alloc::Global;
 #[derive(Clone, Copy)]
 pub enum Tested {
     Calls,
-    CallsInPlace,
+    ScaledSums,
     CallsWithANumber,
-    CallsWithANumberInPlace,
     Quotients,
     QuotientsInPlace,
     OperatorsInPlace,
@@ -43,9 +40,8 @@ where
     }
     match tested {
         Tested::Calls => calls_give(alloc, table, row, shape, wanted),
-        Tested::CallsInPlace => calls_leave(table, row, shape, first),
+        Tested::ScaledSums => scaled_sums_are_left(table, row, shape, first),
         Tested::CallsWithANumber => calls_with_a_number_give(alloc, table, shape, wanted),
-        Tested::CallsWithANumberInPlace => calls_with_a_number_leave(table, shape, first),
         Tested::Quotients => quotients_are_right(alloc, table, row, shape, first),
         Tested::QuotientsInPlace => quotients_are_left(table, row, shape, first),
         Tested::OperatorsInPlace => operators_leave(table, row, shape, first),
@@ -55,7 +51,7 @@ where
 /// Returns a table of two rows in a layout, or one without rows, from the numbers that the test has its results for.
 fn table_for(alloc: Global, tested: Tested, layout: usize) -> Option<Array2<u64>> {
     match tested {
-        Tested::CallsWithANumber | Tested::CallsWithANumberInPlace => one_to_six(alloc, layout),
+        Tested::CallsWithANumber => one_to_six(alloc, layout),
         _ => eleven_on(alloc, layout),
     }
 }

@@ -1,9 +1,8 @@
-//! Tests of the heads of `.npy` files, and of the items behind them, by the public functions of `nd_npy_text`.
+//! Tests of the heads of `.npy` files, by the public functions of `nd_npy_text`.
 
 // A caller that reads a head.
 pub mod axis_count_of_header;
 mod errors;
 mod header_checks;
 mod heads;
-mod items_after_header;
 mod refusals;
