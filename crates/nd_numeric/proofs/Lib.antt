@@ -1,5 +1,6 @@
 pub mod AllElementsPass
 pub mod BestInAnyOrder
+pub mod BestPositionsInLanes
 pub mod FoldKeepingTheBest
 pub mod FoldOfSelfPairs
 pub mod LaneTotalsByCoordinates

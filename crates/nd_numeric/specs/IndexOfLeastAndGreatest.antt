@@ -1,11 +1,18 @@
--- The index of the first of the least or of the greatest elements.
-use Rattle.std.specs.Prelude.{◌≡◌, ◌+◌, ◌<◌, ℕ, List, [], ◌∷◌, Option, Some, Bool, true, false, IfSome, slice_get, if◌then◌else◌}
+-- The index of the first of the least or of the greatest elements, of an array and of each lane along an axis.
+use Rattle.std.specs.Prelude.{◌≡◌, ◌↔◌, ◌+◌, ◌<◌, ℕ, List, [], ◌∷◌, length, Option, Some, Bool, true, false, IfSome, IsNone, IsTrue, slice_get, slice_index, if◌then◌else◌}
 use Rattle.std.specs.List.{reduce}
 use Rattle.std.specs.Option.{option_map}
 use Rattle.std.specs.Ordering.{is_lt, is_gt}
 use Rattle.std.specs.declared.cmp.Ordering.{Ordering}
-use Rattle.nd_shape_and_slice.specs.ShapesAndIndexOrders.{row_rank}
-use Rattle.nd_array_core.specs.ArrayMeaning.{Meaning}
+use Rattle.nd_shape_and_slice.specs.ShapesAndIndexOrders.{in_box, row_rank}
+use Rattle.nd_shape_and_slice.specs.LayoutIndexMaps.{indexed_shape}
+use Rattle.nd_shape_and_slice.specs.declared.dimension.Dimension as dimension
+use Rattle.nd_shape_and_slice.specs.declared.dimension.AxisCount as axis_count
+use Rattle.nd_shape_and_slice.specs.declared.dimension.StrideList as stride_list
+use Rattle.nd_array_core.specs.declared.base.array.ArrayBase.{ArrayBase}
+use Rattle.nd_array_core.specs.Data as data_trait
+use Rattle.nd_array_core.specs.ArrayMeaning.{Meaning, shape_of, element_at}
+use Rattle.nd_array_core.specs.along.AxisFolds.{lane_elements}
 
 -- Returns whether `x` is greater than `y`, or less where `greatest` is false.
 abbrev pub beats_by : {A : Type 0} → (A → A → Ordering) → Bool → A → A → Bool
@@ -29,6 +36,10 @@ module _ {A : Type 0} (beats : A → A → Bool) where
     pub best : (p : ℕ) → IfSome (slice_get xs p) (λ y. beats y r ≡ false)
     pub beats_earlier : (p : ℕ) → p < k → IfSome (slice_get xs p) (λ y. beats r y ≡ true)
 
+  -- Says that `best` is the position of the first best item of the list, and that there is none exactly if the list is empty.
+  abbrev pub IsBestPosition : List A → Option ℕ → Type 0
+  IsBestPosition xs best = (IsNone best ↔ (length xs ≡ 0)) × IfSome best (λ k. (r : A) × IsFirstBestOf xs r k)
+
   -- Returns how many items stand before the first one that `r` doesn't beat.
   abbrev pub beaten_before : A → List A → ℕ
   beaten_before r [] = 0
@@ -46,3 +57,20 @@ IsFirstLeast order = IsFirstBest (λ x y. is_lt (order x y))
 -- Says that no element is greater than the one at the index, and that each before it in row-major order is less.
 abbrev pub IsFirstGreatest : {A : Type 0} → (A → A → Ordering) → Meaning A → List ℕ → Type 0
 IsFirstGreatest order = IsFirstBest (λ x y. is_gt (order x y))
+
+module _ {S D T A R : Type 0} {s : data_trait.Ghosts S A} {d : dimension.Ghosts D R} {n : axis_count.Ghosts D} {r : stride_list.Ghosts R} {t : stride_list.Ghosts T} where
+  -- Says that `result` has, at each index of the other axes, the coordinate of the first best element of the lane along
+  -- `axis` there, and `None` if the lane is empty.
+  abbrev pub AreBestPositions : (A → A → Bool) → ArrayBase S D T A R s d n r t → ℕ → (List ℕ → Option (Option ℕ)) → Type 0
+  AreBestPositions beats a axis result =
+      (i : List ℕ) → IsTrue (in_box (indexed_shape (shape_of a) axis) i) → (best : Option ℕ) × (result i ≡ Some best) × IsBestPosition beats (lane_elements (element_at a) axis (slice_index (shape_of a) axis) i) best
+
+  -- Says that `result` has, at each index of the other axes, the coordinate of the first of the least elements of the lane
+  -- along `axis` there, and `None` if the lane is empty.
+  abbrev pub AreFirstLeast : (A → A → Ordering) → ArrayBase S D T A R s d n r t → ℕ → (List ℕ → Option (Option ℕ)) → Type 0
+  AreFirstLeast order = AreBestPositions (λ x y. is_lt (order x y))
+
+  -- Says that `result` has, at each index of the other axes, the coordinate of the first of the greatest elements of the lane
+  -- along `axis` there, and `None` if the lane is empty.
+  abbrev pub AreFirstGreatest : (A → A → Ordering) → ArrayBase S D T A R s d n r t → ℕ → (List ℕ → Option (Option ℕ)) → Type 0
+  AreFirstGreatest order = AreBestPositions (λ x y. is_gt (order x y))

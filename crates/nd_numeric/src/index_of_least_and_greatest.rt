@@ -59,7 +59,7 @@ fn best_of<A: Distinct, S: Data<Elem = A>, D: Dimension>(
 
 /// Returns the rank (the position in row-major order) of the first greatest element if `greatest` is true, and otherwise
 /// that of the first least element.
-fn best_rank<A: Distinct, S: Data<Elem = A>, D: Dimension>(
+pub(crate) fn best_rank<A: Distinct, S: Data<Elem = A>, D: Dimension>(
     array: &ArrayBase<S, D>,
     greatest: bool,
 ) -> Option<usize>

@@ -5,6 +5,7 @@
 mod arithmetic;
 mod arithmetic_with_a_number;
 mod checked_sums;
+mod coordinates_of_least_and_greatest;
 mod divisors;
 mod float_square_roots;
 mod folds_in_order;
@@ -25,6 +26,7 @@ mod variances;
 pub use arithmetic::{add, div, mul, scaled_add, sub};
 pub use arithmetic_with_a_number::{add_scalar, div_scalar, mul_scalar, sub_scalar};
 pub use checked_sums::checked_sum;
+pub use coordinates_of_least_and_greatest::{argmax_axis, argmin_axis};
 pub use divisors::are_divisors;
 pub use float_square_roots::Real;
 pub use folds_in_order::fold_in_order;

@@ -1,13 +1,13 @@
 -- A step of heat on a grid of floats, cell by cell.
-use Rattle.std.specs.Prelude.{◌+◌, ◌-◌, ◌||◌, ℕ, Bool, nat_eq, if◌then◌else◌}
+use Rattle.std.specs.Prelude.{◌+◌, ◌-◌, ◌&&◌, ℕ, Bool, List, [], ◌∷◌, nat_lt, if◌then◌else◌}
 use Rattle.std.specs.Option.{unwrap_or}
 use Rattle.std.specs.Float.{binary64, float_zero}
 use Rattle.std.specs.Float.Ieee.{Float, add, sub, mul}
-use Rattle.nd_array_core.specs.Prelude.{Table, table_of_cells}
+use Rattle.nd_array_core.specs.Prelude.{Table}
 
--- Returns whether a row or a column `k` is the first or the last of `count`.
-abbrev pub is_at_border : ℕ → ℕ → Bool
-is_at_border count k = nat_eq k 0 || nat_eq (k + 1) count
+-- Returns whether a row or a column `k` is neither the first nor the last of `count`.
+abbrev pub is_inner : ℕ → ℕ → Bool
+is_inner count k = nat_lt 0 k && nat_lt k (count - 1)
 
 -- Returns the number of the grid at a row and a column, and 0 outside of it.
 abbrev pub heat_of : Table Float → ℕ → ℕ → Float
@@ -26,9 +26,10 @@ differences_to_neighbours grid row column =
 -- differences from its neighbours added.
 abbrev pub heat_after : Table Float → Float → ℕ → ℕ → Float
 heat_after grid rate row column =
-    if is_at_border grid.rows row || is_at_border grid.columns column then heat_of grid row column
-    else add binary64 (heat_of grid row column) (mul binary64 rate (differences_to_neighbours grid row column))
+    if is_inner grid.rows row && is_inner grid.columns column then add binary64 (heat_of grid row column) (mul binary64 rate (differences_to_neighbours grid row column))
+    else heat_of grid row column
 
--- Returns the grid after a step.
-abbrev pub warmed : Float → Table Float → Table Float
-warmed rate grid = table_of_cells grid.rows grid.columns (heat_after grid rate)
+-- Returns the number of the cell at an index of two coordinates after a step, whatever number stands there now.
+abbrev pub warmed_at : Table Float → Float → List ℕ → Float → Float
+warmed_at grid rate (row ∷ column ∷ []) x = heat_after grid rate row column
+warmed_at grid rate index x = x

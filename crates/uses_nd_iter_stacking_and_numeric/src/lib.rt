@@ -10,6 +10,7 @@ pub mod distances_and_window_means;
 pub mod heat_diffusion;
 pub mod joined_images;
 pub mod nearest_centres;
+pub mod outer_products;
 pub mod stacked_planes;
 pub mod standardised_columns;
 pub mod sums_and_maxima_by_iterators;

@@ -1,16 +1,17 @@
-//! Finds the nearest of several centres, for one point and for each row of a table.
+//! Finds the nearest of several centres for each of many points: the step of k-means that assigns the points.
 #![tactic(auto, using(nd_array_core::proofs::AxesOfDimensionTypes::known_axes))]
 
-ghost use Rattle.std.specs.Prelude.{◌≡◌, ◌<◌, ◌↔◌, IfOk, IfSome, IsNone, [], ◌∷◌};
+ghost use Rattle.std.specs.Prelude.{◌≡◌, ◌↔◌, IfOk, IfSome, IsNone, [], ◌∷◌};
+ghost use Rattle.std.specs.Float.{binary64, float_zero};
+ghost use Rattle.std.specs.Float.Ieee.{add};
 ghost use Rattle.std.specs.Ordering.{nan_last_cmp};
-ghost use Rattle.nd_array_core.specs.Prelude.{meaning_of, shape_of, size_of, rows_of, columns_of, row_of, table_of, HasCellsOf1, HasLength, ShowsLine};
-ghost use Rattle.nd_numeric.specs.IndexOfLeastAndGreatest.{IsFirstLeast};
-ghost use Rattle.uses_nd_iter_stacking_and_numeric.specs.NearestCentres.{distance_of_rows, AreNearest, IsNearest};
+ghost use Rattle.nd_array_core.specs.Prelude.{meaning_of, shape_of, element_at, size_of, table_of, IsMappedByIndex};
+ghost use Rattle.nd_numeric.specs.IndexOfLeastAndGreatest.{AreFirstLeast, IsFirstLeast};
+ghost use Rattle.nd_numeric.specs.SumsProductsAndMeans.{AreLaneFolds};
+ghost use Rattle.uses_nd_iter_stacking_and_numeric.specs.NearestCentres.{coordinate_of, square_between, square_at};
 
-use crate::distances_and_window_means::squared_distance;
-use nd_array_core::laws::nothing_outside;
 use nd_array_core::prelude::*;
-use nd_numeric::argmin;
+use nd_numeric::{argmin, argmin_axis, sum_axis};
 use std::alloc::Global;
 
 /// Returns the number of the centre that is nearest to a point, given the point's distances to all centres. Of several
@@ -23,90 +24,65 @@ pub fn nearest_centre<S: Data<Elem = f64>>(distances: &ArrayBase<S, Ix1>) -> Opt
     argmin(distances)
 }
 
-/// Returns the row `number` of a table.
-fn row_seen<S: Data<Elem = f64>>(table: &ArrayBase<S, Ix2>, number: usize) -> ArrayView1<'_, f64>
-    requires { number < rows_of table.now }
-    ensures { ShowsLine result (row_of number (table_of table.now)) }
-{
-    table.row(number)
+/// Points and centres, as the rows of two tables.
+#[derive(Drop)]
+struct Clusters<'a, S: Data<Elem = f64>, Z: Data<Elem = f64>> {
+    points: &'a ArrayBase<S, Ix2>,
+    centres: &'a ArrayBase<Z, Ix2>,
 }
 
-/// Returns the squared distance of a row of `points` from a row of `centres`, which has as many columns.
-fn distance_between<S: Data<Elem = f64>, Z: Data<Elem = f64>>(
-    points: &ArrayBase<S, Ix2>,
-    centres: &ArrayBase<Z, Ix2>,
-    point: usize,
-    centre: usize,
-) -> f64
-    requires columns { columns_of centres.now ≡ columns_of points.now }
-    requires point { point < rows_of points.now }
-    requires centre { centre < rows_of centres.now }
-    ensures { result ≡ distance_of_rows (table_of points.now) (table_of centres.now) point centre }
+/// Returns the number of a table at `row` and `column`, and 0 outside of it.
+fn coordinate_of<S: Data<Elem = f64>>(table: &ArrayBase<S, Ix2>, row: usize, column: usize) -> f64
+    ensures { result ≡ coordinate_of (table_of table.now) row column }
 {
-    let one = row_seen(points, point);
-    let other = row_seen(centres, centre);
-    squared_distance(&one, &other)
-}
-
-/// Returns the squared distances of a row of `points` from all rows of `centres`, which has as many columns.
-#[tactic(auto, using(nd_array_core::proofs::AxesOfDimensionTypes::known_axes, nd_array_core::proofs::CheckedSizes::list_checked))]
-pub fn distances_from<S: Data<Elem = f64>, Z: Data<Elem = f64>>(
-    alloc: Global,
-    points: &ArrayBase<S, Ix2>,
-    centres: &ArrayBase<Z, Ix2>,
-    point: usize,
-) -> Result<Array1<f64>, NoMemory>
-    requires columns { columns_of centres.now ≡ columns_of points.now }
-    requires point { point < rows_of points.now }
-    ensures shape { IfOk result (λ list. HasLength list (rows_of centres.now)) }
-    ensures distances { IfOk result (λ list. HasCellsOf1 list (rows_of centres.now) (distance_of_rows (table_of points.now) (table_of centres.now) point)) }
-{
-    let count = centres.nrows();
-    Array1::from_shape_fn(
-        alloc,
-        count,
-        |centre| distance_between(points, centres, point, centre),
-    )
-}
-
-/// Returns the row of `centres` that is the nearest to a row of `points`, and the first of those that are equally near.
-/// `centres` must have as many columns, and at least one row.
-fn nearest_row<S: Data<Elem = f64>, Z: Data<Elem = f64>>(
-    alloc: Global,
-    points: &ArrayBase<S, Ix2>,
-    centres: &ArrayBase<Z, Ix2>,
-    point: usize,
-) -> Result<usize, NoMemory>
-    requires columns { columns_of centres.now ≡ columns_of points.now }
-    requires some { 0 < rows_of centres.now }
-    requires point { point < rows_of points.now }
-    ensures { IfOk result (IsNearest (table_of points.now) (table_of centres.now) point) }
-{
-    let distances = distances_from(alloc, points, centres, point)?;
-    nothing_outside(&distances);
-    match nearest_centre(&distances) {
-        Some(number) => Ok(number),
-        None => unreachable!(),
+    match table.get([row, column]) {
+        Some(number) => *number,
+        None => 0.0,
     }
 }
 
-/// Returns, for each point in turn, the number of the nearest centre: the step of k-means that assigns the points. The
-/// rows of the two tables are the points and the centres. Both must have as many columns, and there must be a centre.
-/// Of several centres that are equally near it is the first.
-#[tactic(auto, using(nd_array_core::proofs::AxesOfDimensionTypes::known_axes, crate::proofs::FirstNearest::listed_next))]
-pub fn nearest_centres<S: Data<Elem = f64>, Z: Data<Elem = f64>>(
+impl<'a, S: Data<Elem = f64>, Z: Data<Elem = f64>> Clusters<'a, S, Z> {
+    /// Returns the square of the difference of a point and a centre in one column.
+    fn square_between(&self, point: usize, centre: usize, column: usize) -> f64
+        ensures { result ≡ square_between (table_of self.entry.now.points.now) (table_of self.entry.now.centres.now) point centre column }
+    {
+        let difference = coordinate_of(self.points, point, column)
+            - coordinate_of(self.centres, centre, column);
+        difference * difference
+    }
+}
+
+/// Writes the square of the difference of each point and each centre in each column. It takes no memory.
+pub fn write_squares<S: Data<Elem = f64>, Z: Data<Elem = f64>, Y: DataMut<Elem = f64>>(
+    points: &ArrayBase<S, Ix2>,
+    centres: &ArrayBase<Z, Ix2>,
+    squares: &mut ArrayBase<Y, Ix3>,
+)
+    ensures shape { shape_of squares.new ≡ shape_of squares.old }
+    ensures squares { IsMappedByIndex (square_at (table_of points.now) (table_of centres.now)) (element_at squares.old) (element_at squares.new) }
+{
+    let clusters = Clusters { points, centres };
+    squares.indexed_map_inplace(|(point, centre, column), square| {
+        *square = clusters.square_between(point, centre, column)
+    });
+}
+
+/// Returns the squared distance of each point from each centre, and the number of the centre that is nearest to each point:
+/// the step of k-means that assigns the points. `squares` has an axis for the points, one for the centres and one for the
+/// columns of both tables; it is written, and a squared distance is the sum of the squares in all columns. Of several
+/// centres that are equally near the number is that of the first.
+pub fn nearest_centres<S: Data<Elem = f64>, Z: Data<Elem = f64>, Y: DataMut<Elem = f64>>(
     alloc: Global,
     points: &ArrayBase<S, Ix2>,
     centres: &ArrayBase<Z, Ix2>,
-) -> Result<Vec<usize>, NoMemory>
-    requires columns { columns_of centres.now ≡ columns_of points.now }
-    requires some { 0 < rows_of centres.now }
-    ensures { IfOk result (λ numbers. AreNearest (table_of points.now) (table_of centres.now) numbers.items) }
+    squares: &mut ArrayBase<Y, Ix3>,
+) -> Result<(Array2<f64>, Array1<Option<usize>>), NoMemory>
+    ensures squares { IsMappedByIndex (square_at (table_of points.now) (table_of centres.now)) (element_at squares.old) (element_at squares.new) }
+    ensures distances { IfOk result (λ r. AreLaneFolds (add binary64) float_zero squares.new 2 (element_at r.0)) }
+    ensures nearest { IfOk result (λ r. AreFirstLeast nan_last_cmp r.0 1 (element_at r.1)) }
 {
-    let count = points.nrows();
-    let mut numbers = Vec::with_capacity(alloc, count)?;
-    for point in 0..count {
-        numbers.push_reserved(nearest_row(alloc, points, centres, point)?);
-    }
-    Ok(numbers)
+    write_squares(points, centres, squares);
+    let distances = sum_axis(alloc, squares, Axis(2))?;
+    let nearest = argmin_axis(alloc, &distances, Axis(1))?;
+    Ok((distances, nearest))
 }

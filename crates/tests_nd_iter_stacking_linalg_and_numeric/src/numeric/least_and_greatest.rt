@@ -4,7 +4,7 @@
 use crate::numeric::tables_in_three_layouts::{float_list, lists};
 use crate::numeric::totals::{ends_at, totals};
 use nd_array_core::{Array2, ArrayBase, Data};
-use nd_numeric::{max_axis, min_axis};
+use nd_numeric::{argmax_axis, argmin_axis, max_axis, min_axis};
 use nd_shape_and_slice::{Axis, RemoveAxis};
 use nd_test_arrays::{table, table_by};
 use std::alloc::Global;
@@ -25,17 +25,19 @@ const FLOATS: [(&[f64], Option<usize>, Option<usize>); 7] = [
     (&[f64::NAN, f64::NAN], Some(0), Some(0)),
 ];
 
-/// The least elements of the columns and the greatest of the rows of a table, and the indexes of the least and of the
-/// greatest of all.
+/// The least elements of the columns and the greatest of the rows of a table, the rows of the former and the columns of the
+/// latter, and the indexes of the least and of the greatest of all.
 type Ends = (
     &'static [Option<u64>],
     &'static [Option<u64>],
+    &'static [Option<usize>],
+    &'static [Option<usize>],
     Option<(usize, usize)>,
     Option<(usize, usize)>,
 );
 
-/// Returns whether the least elements of the columns and the greatest of the rows of a table are these. This is for all
-/// storages and numbers of axes, since a call at known types takes longer to prove.
+/// Returns whether the least elements of the columns and the greatest of the rows of a table, and their coordinates, are
+/// these. This is for all storages and numbers of axes, since a call at known types takes longer to prove.
 fn lane_ends_are<S: Data<Elem = u64>, D: RemoveAxis>(
     alloc: Global,
     table: &ArrayBase<S, D>,
@@ -44,6 +46,8 @@ fn lane_ends_are<S: Data<Elem = u64>, D: RemoveAxis>(
     1 < table.ndim()
         && lists(min_axis(alloc, table, Axis(0)), wanted.0)
         && lists(max_axis(alloc, table, Axis(1)), wanted.1)
+        && lists(argmin_axis(alloc, table, Axis(0)), wanted.2)
+        && lists(argmax_axis(alloc, table, Axis(1)), wanted.3)
 }
 
 /// Returns whether there is a table, and its least and greatest elements, and their indexes, are these.
@@ -51,7 +55,7 @@ fn ends_are_right(alloc: Global, made: Option<Array2<u64>>, wanted: &Ends) -> bo
     match made {
         Some(table) => {
             let (least, greatest) = ends_at(&table);
-            lane_ends_are(alloc, &table, wanted) && least == wanted.2 && greatest == wanted.3
+            lane_ends_are(alloc, &table, wanted) && least == wanted.4 && greatest == wanted.5
         }
         None => false,
     }
@@ -71,11 +75,13 @@ fn table_in(alloc: Global, layout: usize) -> Option<Array2<u64>> {
 const ENDS: Ends = (
     &[Some(5), Some(1), Some(1)],
     &[Some(9), Some(9)],
+    &[Some(0), Some(0), Some(1)],
+    &[Some(2), Some(0)],
     Some((0, 1)),
     Some((0, 2)),
 );
 
-const OF_NOTHING: Ends = (&[None, None], &[], None, None);
+const OF_NOTHING: Ends = (&[None, None], &[], &[None, None], &[], None, None);
 
 /// Returns whether the ends of the table in each layout, and those of a table without rows, are right.
 fn ends_in_each_layout(alloc: Global) -> bool {

@@ -2,12 +2,12 @@
 //! the numbers of the grid and of the points.
 #![tactic(auto, using(nd_array_core::proofs::AxesOfDimensionTypes::known_axes))]
 
-use crate::numeric::tables_in_three_layouts::{float_list, floats_by, has, lists_floats};
-use nd_array_core::{Array1, Array2, ArrayBase, Data, DataMut};
+use crate::numeric::tables_in_three_layouts::{float_list, floats_by, has, lists_floats, meets};
+use nd_array_core::{Array1, Array2, Array3, ArrayBase, Data, DataMut};
 use nd_shape_and_slice::{Dimension, Ix2};
 use std::alloc::Global;
 use uses_nd_iter_stacking_and_numeric::distances_and_window_means::{
-    running_mean, squared_distance,
+    distance, running_mean, squared_distance,
 };
 use uses_nd_iter_stacking_and_numeric::heat_diffusion::heat_step;
 use uses_nd_iter_stacking_and_numeric::nearest_centres::nearest_centres;
@@ -93,6 +93,27 @@ fn distances_are<S: Data<Elem = f64>, Z: Data<Elem = f64>, D: Dimension>(
     are_apart(one, other, wanted) && are_apart(one, one, 0.0)
 }
 
+/// Returns whether an array and another one, which is broadcast to its shape, have this distance.
+fn is_distance<S: Data<Elem = f64>, Z: Data<Elem = f64>, D: Dimension, E: Dimension>(
+    alloc: Global,
+    one: &ArrayBase<S, D>,
+    other: &ArrayBase<Z, E>,
+    wanted: f64,
+) -> bool {
+    meets(one, other) && distance(alloc, one, other) == Ok(wanted)
+}
+
+/// Returns whether 1 5 / 4 9 and the row 1 5 have the distance 5.
+fn distance_to_row(alloc: Global) -> bool {
+    let Some(table) = floats_by(alloc, (2, 2), [1, 2], &[1.0, 4.0, 5.0, 9.0]) else {
+        return false;
+    };
+    match float_list(alloc, &[1.0, 5.0]) {
+        Some(row) => is_distance(alloc, &table, &row, 5.0),
+        None => false,
+    }
+}
+
 /// Returns whether a table and the transpose of 0 1 / 4 0, which lies in column-major order, are as far apart as they
 /// should be.
 fn distances(alloc: Global) -> bool {
@@ -105,21 +126,24 @@ fn distances(alloc: Global) -> bool {
     }
 }
 
-/// Widths of windows, and the means of all windows of so many neighbours of 1 2 3 6 0.
-const MEANS: [(usize, &[f64]); 3] = [
+/// Widths of windows, and the means of the windows of so many neighbours of 1 2 3 6 0: 0 where the list ends before the
+/// window does.
+const MEANS: [(usize, &[f64]); 4] = [
     (1, &[1.0, 2.0, 3.0, 6.0, 0.0]),
-    (2, &[1.5, 2.5, 4.5, 3.0]),
-    (5, &[2.4]),
+    (2, &[1.5, 2.5, 4.5, 3.0, 0.0]),
+    (5, &[2.4, 0.0, 0.0, 0.0, 0.0]),
+    (6, &[0.0, 0.0, 0.0, 0.0, 0.0]),
 ];
 
 /// Returns whether the means of all windows of so many neighbours of a list are these.
 fn means_are(alloc: Global, list: &Array1<f64>, width: usize, wanted: &[f64]) -> bool {
-    if width == 0 || width > list.dim() {
-        return false;
-    }
-    match running_mean(alloc, list, width) {
-        Ok(means) => lists_floats(&means, wanted),
-        Err(_) => false,
+    match float_list(alloc, &[9.0, 9.0, 9.0, 9.0, 9.0]) {
+        Some(made) => {
+            let mut means = made;
+            running_mean(list, width, &mut means);
+            lists_floats(&means, wanted)
+        }
+        None => false,
     }
 }
 
@@ -156,9 +180,13 @@ fn becomes(alloc: Global, strides: [isize; 2], wanted: &[f64]) -> bool {
     let Some(grid) = floats_by(alloc, (4, 4), strides, &GRID) else {
         return false;
     };
-    match heat_step(alloc, &grid, 0.25) {
-        Ok(next) => has(&next, wanted),
-        Err(_) => false,
+    match floats_by(alloc, (4, 4), [4, 1], &GRID) {
+        Some(made) => {
+            let mut next = made;
+            heat_step(&grid, 0.25, &mut next);
+            has(&next, wanted)
+        }
+        None => false,
     }
 }
 
@@ -168,36 +196,53 @@ fn heat(alloc: Global) -> bool {
 }
 
 /// Points, centres, and the number of the nearest centre of each point; points and centres in a plane, one after another.
-const NEAREST: [(&[f64], &[f64], &[usize]); 3] = [
+const NEAREST: [(&[f64], &[f64], &[Option<usize>]); 4] = [
     (
         &[0.0, 0.0, 1.0, 1.0, 5.0, 4.0, 2.5, 2.0, -3.0, 9.0],
         &[0.0, 1.0, 5.0, 3.0, 0.0, 1.0],
-        &[0, 0, 1, 0, 0],
+        &[Some(0), Some(0), Some(1), Some(0), Some(0)],
     ),
     (
         &[0.0, 0.0, 4.0, 0.0, 2.0, 0.0, 9.0, 9.0],
         &[0.0, 0.0, 4.0, 0.0],
-        &[0, 1, 0, 1],
+        &[Some(0), Some(1), Some(0), Some(1)],
     ),
     (&[], &[1.0, 2.0], &[]),
+    (&[1.0, 2.0, 3.0, 4.0], &[], &[None, None]),
 ];
 
-/// Returns whether there is a centre, points and centres have as many columns, and the nearest centres of the points have
-/// these numbers.
+/// Returns an array with an axis for the points, one for the centres and one for the columns. Returns `None` where memory is
+/// refused.
+fn scratch(alloc: Global, points: &Array2<f64>, centres: &Array2<f64>) -> Option<Array3<f64>> {
+    let count = points.len().checked_mul(centres.nrows())?;
+    let Ok(items) = Vec::from_slice(alloc, NINES.get(..count)?) else {
+        return None;
+    };
+    match Array3::from_shape_vec((points.nrows(), centres.nrows(), points.ncols()), items) {
+        Ok(made) => Some(made),
+        Err(_) => None,
+    }
+}
+
+/// Returns whether the nearest centres of the points have these numbers.
 fn assigned_are(
     alloc: Global,
     points: &Array2<f64>,
     centres: &Array2<f64>,
-    wanted: &[usize],
+    wanted: &[Option<usize>],
 ) -> bool {
-    if centres.nrows() == 0 || centres.ncols() != points.ncols() {
+    let Some(made) = scratch(alloc, points, centres) else {
         return false;
-    }
-    match nearest_centres(alloc, points, centres) {
-        Ok(numbers) => numbers.as_slice() == wanted,
+    };
+    let mut squares = made;
+    match nearest_centres(alloc, points, centres, &mut squares) {
+        Ok((_distances, nearest)) => nearest.as_slice() == Some(wanted),
         Err(_) => false,
     }
 }
+
+/// What stands in the array of squares before they are written.
+const NINES: [f64; 30] = [9.0; 30];
 
 /// Returns the table of points in a plane, whose coordinates come one after another. Returns `None` where memory is
 /// refused.
@@ -212,7 +257,7 @@ fn points_of(alloc: Global, coordinates: &[f64]) -> Option<Array2<f64>> {
 }
 
 /// Returns whether the nearest centres of points in a plane have these numbers.
-fn nearest_are(alloc: Global, points: &[f64], centres: &[f64], wanted: &[usize]) -> bool {
+fn nearest_are(alloc: Global, points: &[f64], centres: &[f64], wanted: &[Option<usize>]) -> bool {
     match points_of(alloc, points) {
         Some(points) => match points_of(alloc, centres) {
             Some(centres) => assigned_are(alloc, &points, &centres, wanted),
@@ -235,5 +280,6 @@ fn assignments(alloc: Global) -> bool {
 fn called(rt: HostRuntime) {
     let alloc = rt.alloc();
     let tables_are_right = columns(alloc) && distances(alloc) && heat(alloc);
-    assert!(rt; tables_are_right && windows(alloc) && assignments(alloc));
+    assert!(rt; tables_are_right && windows(alloc));
+    assert!(rt; distance_to_row(alloc) && assignments(alloc));
 }
